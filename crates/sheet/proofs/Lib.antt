@@ -1,0 +1,3 @@
+mod Deals
+mod Places
+mod Widths
