@@ -1,3 +1,5 @@
 mod Deals
+mod ReadWritten
+mod Numbers
 mod Places
 mod Widths

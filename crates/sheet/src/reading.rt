@@ -2,7 +2,7 @@
 ghost use mathlib.Core.Path.{_≡_};
 ghost use lib.ListN.{drop};
 ghost use Rattle.std.specs.Vec.{made};
-ghost use Rattle.sheet.specs.Reading.{Taken, read-at, calls, behind};
+ghost use Rattle.sheet.specs.Reading.{Taken, read-at, calls, behind, Same-bytes};
 use crate::operands;
 use crate::place::Guard;
 use crate::place::Place;
@@ -80,6 +80,7 @@ fn bytes_from(sheet: &[u8], at: usize) -> &[u8]
 fn advance<'a>(sheet: &'a [u8], place: &mut Place) -> Result<Option<Command<'a>>, Refusal>
     ensures answer { λ r. ⌜ calls r ≡ read-at (now (sheet .entry)) (now (place .entry) .at) ⌝ }
     ensures place { λ r. ⌜ made r (λ c. now (place .exit) .at ≡ behind (calls r) (now (place .entry) .at)) ⌝ }
+    ensures bytes { λ r. ⌜ Same-bytes (now (sheet .entry)) (now (place .entry) .at) (calls r) ⌝ }
 {
     if sheet.len() > LONGEST {
         return Err(Refusal::new(Cause::SheetTooLong, 0));
@@ -101,6 +102,7 @@ fn advance<'a>(sheet: &'a [u8], place: &mut Place) -> Result<Option<Command<'a>>
 pub fn read<'a>(sheet: &'a [u8], place: &mut Place) -> Result<Option<Command<'a>>, Refusal>
     ensures answer { λ r. ⌜ calls r ≡ read-at (now (sheet .entry)) (now (place .entry) .at) ⌝ }
     ensures place { λ r. ⌜ now (place .exit) .at ≡ behind (calls r) (now (place .entry) .at) ⌝ }
+    ensures bytes { λ r. ⌜ Same-bytes (now (sheet .entry)) (now (place .entry) .at) (calls r) ⌝ }
 {
     let start = place.at;
     let mut guard = Guard {
