@@ -2,4 +2,6 @@ mod Deals
 mod ReadWritten
 mod Numbers
 mod Places
+mod Puts
 mod Widths
+mod WrittenRead

@@ -74,11 +74,11 @@ deals s b none =
     let counted : length (take n (row s)) ≡ n = length-take-le n (row s) (omega arith) in
     let blank : all-zero (drop n (row s)) ≡ true = not-false (all-zero (drop n (row s))) (sound .1) in
     let behind : drop n (row s) ≡ replicate (40 - length (take n (row s))) 0 =
-        zeros (drop n (row s)) blank ∙ ap (λ k. replicate k 0) (simp length-drop (omega arith)) in
+    zeros (drop n (row s)) blank ∙ ap (λ k. replicate k 0) (simp length-drop (omega arith)) in
     let cards : row s ≡ take n (row s) ++ replicate (40 - length (take n (row s))) 0 =
-        sym (take-append-drop n (row s)) ∙ ap (λ t. take n (row s) ++ t) behind in
+    sym (take-append-drop n (row s)) ∙ ap (λ t. take n (row s) ++ t) behind in
     let rest : s ≡ n ∷ (row s ++ drop 41 s) =
-        sym (front 1 s (omega arith)) ∙ ap (λ t. n ∷ t) (sym (take-append-drop 40 (drop 1 s)) ∙ ap (λ t. row s ++ t) (drop-drop 40 1 s)) in
+    sym (front 1 s (omega arith)) ∙ ap (λ t. n ∷ t) (sym (take-append-drop 40 (drop 1 s)) ∙ ap (λ t. row s ++ t) (drop-drop 40 1 s)) in
     ap (λ t. 0x44 ∷ t) rest ∙ (λ i. 0x44 ∷ sym counted i ∷ (cards i ++ drop 41 s))
 
 seats : (first : ℕ) (s : List ℕ) → 1 ≤ length s → first ∷ s ≡ first ∷ getD s 0 0 ∷ drop 1 s
@@ -99,7 +99,7 @@ written-back first known =
 
 -- a command that was read whole at a place
 read-whole : (sheet : List ℕ) (p : ℕ) → Bytes sheet → p < length sheet → first-cause (faults (getD sheet p 0) (drop (p + 1) sheet)) ≡ None
-  → Same-bytes sheet p (Ok (Some (call-in (getD sheet p 0) (drop (p + 1) sheet))))
+    → Same-bytes sheet p (Ok (Some (call-in (getD sheet p 0) (drop (p + 1) sheet))))
 read-whole sheet p b h none =
     let first = getD sheet p 0 in
     let s = drop (p + 1) sheet in

@@ -1,9 +1,11 @@
 -- The format of a sheet: the bytes of each command, its first byte and then its operands, numbers with the highest byte first.
 use mathlib.Core.Bool.{cond}
 use mathlib.Core.List.{List, [], _∷_, _++_}
-use Prim.Native.Nat.{ℕ, zero, suc, _+_, _-_, _/_, _%_, _^_}
+use Prim.Native.Nat.{ℕ, zero, suc, _+_, _-_, _/_, _%_, _^_, _<_}
 use lib.Dec.{eqb}
 use lib.ListN.{length, getD, replicate}
+use mathlib.Core.Path.{_≡_}
+use Rattle.commands.specs.declared.Conditions.{Conditions}
 use Rattle.commands.specs.Calls.{Call, Open, Buy, Cash, Fill, Draw, Bet, Deal, Raise, Leave, Settle, Void}
 
 -- a number in so many bytes, the highest first
@@ -49,3 +51,30 @@ width first =
 -- how many bytes a call takes on a sheet
 abbrev pub width-of : Call → ℕ
 width-of c = width (getD (bytes-of c) 0 0)
+
+-- conditions and a tray whose numbers fit their bytes
+pub record Conditions-fit (c : Conditions) (tray : ℕ) : Type 0 where
+  pub minimum : c .minimum < 256 ^ 4
+  pub maximum : c .maximum < 256 ^ 4
+  pub cap : c .cap < 256 ^ 8
+  pub odds-0 : getD (c .odds) 0 0 < 256 ^ 2
+  pub odds-1 : getD (c .odds) 1 0 < 256 ^ 2
+  pub odds-2 : getD (c .odds) 2 0 < 256 ^ 2
+  pub odds-3 : getD (c .odds) 3 0 < 256 ^ 2
+  pub odds-4 : getD (c .odds) 4 0 < 256 ^ 2
+  pub five : length (c .odds) ≡ 5
+  pub chips : tray < 256 ^ 8
+
+-- a call whose numbers fit their bytes, as those of every command do
+abbrev pub Fits-format : Call → Type 0
+Fits-format (Open c tray) = Conditions-fit c tray
+Fits-format (Buy seat amount) = amount < 256 ^ 8
+Fits-format (Cash seat amount) = amount < 256 ^ 8
+Fits-format (Fill amount) = amount < 256 ^ 8
+Fits-format (Draw amount) = amount < 256 ^ 8
+Fits-format (Bet seat space amount) = amount < 256 ^ 4
+Fits-format (Deal cards) = Unit {0}
+Fits-format (Raise seat) = Unit {0}
+Fits-format (Leave seat) = Unit {0}
+Fits-format Settle = Unit {0}
+Fits-format Void = Unit {0}
