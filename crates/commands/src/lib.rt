@@ -34,12 +34,8 @@ impl Command<'_> {
         ensures { λ r. ⌜ r ≡ seat-named (call-of (now (self .entry))) ⌝ }
     {
         match self {
-            Command::Buy { seat, amount: _ } | Command::Cash { seat, amount: _ } => *seat,
-            Command::Bet {
-                seat,
-                space: _,
-                amount: _,
-            } => *seat,
+            Command::Buy { seat, .. } | Command::Cash { seat, .. } => *seat,
+            Command::Bet { seat, .. } => *seat,
             Command::Raise { seat } | Command::Leave { seat } => *seat,
             _ => 0,
         }
@@ -49,22 +45,15 @@ impl Command<'_> {
         ensures { λ r. ⌜ now r ≡ name-of (call-of (now (self .entry))) ⌝ }
     {
         match self {
-            Command::Open {
-                conditions: _,
-                tray: _,
-            } => "Open",
-            Command::Buy { seat: _, amount: _ } => "Buy",
-            Command::Cash { seat: _, amount: _ } => "Cash",
-            Command::Fill { amount: _ } => "Fill",
-            Command::Draw { amount: _ } => "Draw",
-            Command::Bet {
-                seat: _,
-                space: _,
-                amount: _,
-            } => "Bet",
-            Command::Deal { cards: _ } => "Deal",
-            Command::Raise { seat: _ } => "Raise",
-            Command::Leave { seat: _ } => "Leave",
+            Command::Open { .. } => "Open",
+            Command::Buy { .. } => "Buy",
+            Command::Cash { .. } => "Cash",
+            Command::Fill { .. } => "Fill",
+            Command::Draw { .. } => "Draw",
+            Command::Bet { .. } => "Bet",
+            Command::Deal { .. } => "Deal",
+            Command::Raise { .. } => "Raise",
+            Command::Leave { .. } => "Leave",
             Command::Settle => "Settle",
             Command::Void => "Void",
         }

@@ -6,6 +6,8 @@ pub mod place;
 pub mod reading;
 // A command's bytes at a place of a buffer.
 pub mod writing;
+// The first byte of each command.
+mod first_byte;
 // The operands behind a first byte.
 mod operands;
 // The bytes of each shape of command.

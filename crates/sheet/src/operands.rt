@@ -1,9 +1,10 @@
 // The operands behind a command's first byte: each function takes its own from the front and leaves the rest.
 ghost use mathlib.Core.Path.{_≡_};
-ghost use Prim.Native.Nat.{ℕ, _+_, _-_, _<_, _≤_};
-ghost use lib.ListN.{getD, length, take, drop};
+ghost use Prim.Native.Nat.{ℕ, _+_, _<_};
+ghost use lib.ListN.{drop, getD, length};
 ghost use Rattle.std.specs.Options.{Cases as BySome};
-ghost use Rattle.sheet.specs.Reading.{operand, conditions-in, all-zero, Drawn};
+ghost use Rattle.sheet.specs.Reading.{operand, conditions-in, all-zero, row, Drawn};
+use crate::place::bytes_from;
 use commands::Conditions;
 use refusals::Cause;
 
@@ -131,24 +132,33 @@ fn is_zero(bytes: &[u8]) -> bool
     true
 }
 
+// Whether the bytes from a place on are all 0.
+fn is_zero_from(bytes: &[u8], at: usize) -> bool
+    ensures { λ r. ⌜ r ≡ all-zero (drop at (now (bytes .entry))) ⌝ }
+{
+    is_zero(bytes_from(bytes, at))
+}
+
+// The count of a Deal and its forty card bytes.
+fn count_and_row(bytes: &[u8]) -> Option<(u8, &[u8], &[u8])>
+    ensures { λ r. ⌜ BySome r (length (now (bytes .entry)) < 41) (λ p. (p .0 ≡ getD (now (bytes .entry)) 0 0) × (now (p .1) ≡ row (now (bytes .entry))) × (length (now (p .1)) ≡ 40) × (length (now (p .2)) + 41 ≡ length (now (bytes .entry)))) ⌝ }
+{
+    match bytes {
+        [count, rest @ ..] if rest.len() >= 40 => Some((*count, &rest[0..40], &rest[40..])),
+        _ => None,
+    }
+}
+
 // The counted cards of a Deal. The other of its forty bytes are 0.
 pub(crate) fn cards(bytes: &[u8]) -> Result<(&[u8], &[u8]), Cause>
     ensures { λ r. ⌜ Drawn (now (bytes .entry)) r ⌝ }
 {
-    let [count, rest @ ..] = bytes else {
+    let Some((count, row, rest)) = count_and_row(bytes) else {
         return Err(Cause::CutShort);
     };
-    if rest.len() < 40 {
-        return Err(Cause::CutShort);
-    }
-    let count = *count as usize;
-    if count > 40 {
+    let count = count as usize;
+    if count > 40 || !is_zero_from(row, count) {
         return Err(Cause::BadDeal);
     }
-    let (row, rest) = rest.split_at(40);
-    let (cards, filler) = row.split_at(count);
-    if !is_zero(filler) {
-        return Err(Cause::BadDeal);
-    }
-    Ok((cards, rest))
+    Ok((&row[0..count], rest))
 }

@@ -1,11 +1,12 @@
 // Reading: the command at a place of a sheet.
 ghost use mathlib.Core.Path.{_≡_};
-ghost use lib.ListN.{drop};
 ghost use Rattle.std.specs.Vec.{made};
 ghost use Rattle.sheet.specs.Reading.{Taken, read-at, calls, behind, Same-bytes};
+use crate::first_byte;
 use crate::operands;
 use crate::place::Guard;
 use crate::place::Place;
+use crate::place::bytes_from;
 use commands::Command;
 use refusals::Cause;
 use refusals::Refusal;
@@ -18,29 +19,29 @@ fn command(first: u8, bytes: &[u8]) -> Result<(Command<'_>, &[u8]), Cause>
     ensures { λ r. ⌜ Taken first (now (bytes .entry)) r ⌝ }
 {
     match first {
-        0x54 => {
+        first_byte::OPEN => {
             let (conditions, tray, rest) = operands::conditions_and_tray(bytes).ok_or(
                 Cause::CutShort,
             )?;
             Ok((Command::Open { conditions, tray }, rest))
         }
-        0x49 => {
+        first_byte::BUY => {
             let (seat, amount, rest) = operands::seat_and_amount(bytes).ok_or(Cause::CutShort)?;
             Ok((Command::Buy { seat, amount }, rest))
         }
-        0x43 => {
+        first_byte::CASH => {
             let (seat, amount, rest) = operands::seat_and_amount(bytes).ok_or(Cause::CutShort)?;
             Ok((Command::Cash { seat, amount }, rest))
         }
-        0x46 => {
+        first_byte::FILL => {
             let (amount, rest) = operands::amount(bytes).ok_or(Cause::CutShort)?;
             Ok((Command::Fill { amount }, rest))
         }
-        0x57 => {
+        first_byte::DRAW => {
             let (amount, rest) = operands::amount(bytes).ok_or(Cause::CutShort)?;
             Ok((Command::Draw { amount }, rest))
         }
-        0x42 => {
+        first_byte::BET => {
             let (seat, space, amount, rest) = operands::stake(bytes).ok_or(Cause::CutShort)?;
             Ok((
                 Command::Bet {
@@ -51,29 +52,22 @@ fn command(first: u8, bytes: &[u8]) -> Result<(Command<'_>, &[u8]), Cause>
                 rest,
             ))
         }
-        0x44 => match operands::cards(bytes) {
+        first_byte::DEAL => match operands::cards(bytes) {
             Ok((cards, rest)) => Ok((Command::Deal { cards }, rest)),
             Err(cause) => Err(cause),
         },
-        0x52 => {
+        first_byte::RAISE => {
             let (seat, rest) = operands::seat(bytes).ok_or(Cause::CutShort)?;
             Ok((Command::Raise { seat }, rest))
         }
-        0x4C => {
+        first_byte::LEAVE => {
             let (seat, rest) = operands::seat(bytes).ok_or(Cause::CutShort)?;
             Ok((Command::Leave { seat }, rest))
         }
-        0x53 => Ok((Command::Settle, bytes)),
-        0x56 => Ok((Command::Void, bytes)),
+        first_byte::SETTLE => Ok((Command::Settle, bytes)),
+        first_byte::VOID => Ok((Command::Void, bytes)),
         _ => Err(Cause::UnknownByte),
     }
-}
-
-// The bytes from a place on; none from the end on.
-fn bytes_from(sheet: &[u8], at: usize) -> &[u8]
-    ensures { λ r. ⌜ now r ≡ drop at (now (sheet .entry)) ⌝ }
-{
-    &sheet[at.min(sheet.len())..]
 }
 
 // Takes a command's first byte and then its operands, moving the place along; a refusal leaves it inside the command.

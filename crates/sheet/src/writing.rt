@@ -11,6 +11,7 @@ ghost use Rattle.commands.specs.Calls.{call-of};
 ghost use Rattle.sheet.specs.Format.{bytes-of, Fits-format};
 ghost use Rattle.sheet.specs.Writing.{buffer-after, write-at, Reads-back};
 use crate::encoding;
+use crate::first_byte;
 use commands::Command;
 use refusals::Cause;
 use refusals::Refusal;
@@ -45,26 +46,30 @@ fn put_command(command: &Command<'_>, out: &mut [u8], at: usize) -> Result<usize
         Command::Open { conditions, tray } => put(
             out,
             at,
-            &encoding::conditions_and_tray(0x54, *conditions, *tray),
+            &encoding::conditions_and_tray(first_byte::OPEN, *conditions, *tray),
         ),
         Command::Buy { seat, amount } => put(
             out,
             at,
-            &encoding::seat_and_amount(0x49, *seat, *amount),
+            &encoding::seat_and_amount(first_byte::BUY, *seat, *amount),
         ),
         Command::Cash { seat, amount } => put(
             out,
             at,
-            &encoding::seat_and_amount(0x43, *seat, *amount),
+            &encoding::seat_and_amount(first_byte::CASH, *seat, *amount),
         ),
-        Command::Fill { amount } => put(out, at, &encoding::amount(0x46, *amount)),
-        Command::Draw { amount } => put(out, at, &encoding::amount(0x57, *amount)),
+        Command::Fill { amount } => put(out, at, &encoding::amount(first_byte::FILL, *amount)),
+        Command::Draw { amount } => put(out, at, &encoding::amount(first_byte::DRAW, *amount)),
         Command::Bet {
             seat,
             space,
             amount,
-        } => put(out, at, &encoding::stake(0x42, *seat, *space, *amount)),
-        Command::Deal { cards } => match encoding::cards(0x44, cards) {
+        } => put(
+            out,
+            at,
+            &encoding::stake(first_byte::BET, *seat, *space, *amount),
+        ),
+        Command::Deal { cards } => match encoding::cards(first_byte::DEAL, cards) {
             Some(bytes) => put(out, at, &bytes),
             None => {
                 let cause = if has_room(out, at, 42) {
@@ -75,10 +80,10 @@ fn put_command(command: &Command<'_>, out: &mut [u8], at: usize) -> Result<usize
                 Err(Refusal::new(cause, 0))
             }
         },
-        Command::Raise { seat } => put(out, at, &[0x52, *seat]),
-        Command::Leave { seat } => put(out, at, &[0x4C, *seat]),
-        Command::Settle => put(out, at, &[0x53]),
-        Command::Void => put(out, at, &[0x56]),
+        Command::Raise { seat } => put(out, at, &[first_byte::RAISE, *seat]),
+        Command::Leave { seat } => put(out, at, &[first_byte::LEAVE, *seat]),
+        Command::Settle => put(out, at, &[first_byte::SETTLE]),
+        Command::Void => put(out, at, &[first_byte::VOID]),
     }
 }
 
