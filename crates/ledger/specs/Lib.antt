@@ -1,1 +1,5 @@
+pub mod Entries
+pub mod Lines
+pub mod Notes
 pub mod Rolls
+pub mod Sums
