@@ -3,7 +3,7 @@ use Prim.Native.Nat.{ℕ, _-_}
 use mathlib.Core.Bool.{Bool, cond}
 use mathlib.Core.List.{List, [], _∷_, _++_}
 use lib.Dec.{eqb}
-use lib.ListN.{take, drop, length}
+use lib.ListN.{take, length, set}
 use denote.Ref.{now, name}
 use base.Fml.{GName}
 use Rattle.std.specs.declared.result.Result.{Result}
@@ -26,10 +26,6 @@ slice-of r = name (r .slots)
 abbrev pub kept : {R : Type 0} → Roll R → List R
 kept r = take (r .len) (lent r)
 
--- what the lent slice holds past the kept records: whatever its lender left there, or a record of before the roll was emptied
-abbrev pub beyond : {R : Type 0} → Roll R → List R
-beyond r = drop (r .len) (lent r)
-
 -- how many records it has places for
 abbrev pub places : {R : Type 0} → Roll R → ℕ
 places r = length (lent r)
@@ -46,9 +42,9 @@ full r = eqb (free r) 0
 abbrev pub kept-with : {R : Type 0} → Roll R → R → List R
 kept-with r x = cond (full r) (kept r) (kept r ++ x ∷ [])
 
--- what lies beyond then: the first place of it was taken, but none in a full roll
-abbrev pub beyond-with : {R : Type 0} → Roll R → List R
-beyond-with r = cond (full r) (beyond r) (drop 1 (beyond r))
+-- what the lent slice holds then: the record at the place after the last kept one, and every other place as before
+abbrev pub lent-with : {R : Type 0} → Roll R → R → List R
+lent-with r x = cond (full r) (lent r) (set (lent r) (length (kept r)) x)
 
 -- what the roll answers then
 abbrev pub keep-answer : {R : Type 0} → Roll R → Result (Unit {0}) Refusal

@@ -17,3 +17,5 @@ pub mod notes;
 
 // The closing line: where the chips lie at the end.
 pub mod closings;
+#[cfg(test)]
+mod tests;

@@ -2,9 +2,9 @@
 ghost use Prim.Native.Nat.{ℕ, _+_, _<_};
 ghost use mathlib.Core.Path.{_≡_};
 ghost use mathlib.Core.List.{List, [], _∷_, _++_};
-ghost use lib.ListN.{drop, length, set};
+ghost use lib.ListN.{length, set};
 ghost use denote.Ref.{name};
-ghost use Rattle.ledger.specs.Rolls.{lent, slice-of, kept, beyond, places, free, kept-with, beyond-with, keep-answer};
+ghost use Rattle.ledger.specs.Rolls.{lent, slice-of, kept, places, free, kept-with, lent-with, keep-answer};
 use crate::rolls::Roll;
 use crate::seated::NamesSeat;
 use refusals::Cause;
@@ -14,7 +14,7 @@ impl<R: NamesSeat + Drop> Roll<'_, R> {
     // An empty roll over the lent places.
     pub fn new(slots: &mut [R]) -> Roll<'_, R>
         ensures kept { λ r. ⌜ kept r ≡ [] ⌝ }
-        ensures beyond { λ r. ⌜ beyond r ≡ now (slots .entry) ⌝ }
+        ensures lent { λ r. ⌜ lent r ≡ now (slots .entry) ⌝ }
         ensures places { λ r. ⌜ places r ≡ length (now (slots .entry)) ⌝ }
         ensures slice { λ r. ⌜ slice-of r ≡ name (slots .entry) ⌝ }
     {
@@ -39,7 +39,7 @@ impl<R: NamesSeat + Drop> Roll<'_, R> {
     pub fn keep(&mut self, record: R) -> Result<(), Refusal>
         ensures answer { λ x. ⌜ x ≡ keep-answer (now (self .entry)) ⌝ }
         ensures kept { λ _. ⌜ kept (now (self .exit)) ≡ kept-with (now (self .entry)) «record» ⌝ }
-        ensures beyond { λ _. ⌜ beyond (now (self .exit)) ≡ beyond-with (now (self .entry)) ⌝ }
+        ensures lent { λ _. ⌜ lent (now (self .exit)) ≡ lent-with (now (self .entry)) «record» ⌝ }
         ensures places { λ _. ⌜ places (now (self .exit)) ≡ places (now (self .entry)) ⌝ }
         ensures slice { λ _. ⌜ slice-of (now (self .exit)) ≡ slice-of (now (self .entry)) ⌝ }
     {
@@ -54,7 +54,7 @@ impl<R: NamesSeat + Drop> Roll<'_, R> {
     pub fn add(&mut self, record: R)
         requires room { ⌜ 0 < free (now self) ⌝ }
         ensures kept { λ _. ⌜ kept (now (self .exit)) ≡ kept (now (self .entry)) ++ «record» ∷ [] ⌝ }
-        ensures beyond { λ _. ⌜ beyond (now (self .exit)) ≡ drop 1 (beyond (now (self .entry))) ⌝ }
+        ensures lent { λ _. ⌜ lent (now (self .exit)) ≡ set (lent (now (self .entry))) (length (kept (now (self .entry)))) «record» ⌝ }
         ensures places { λ _. ⌜ places (now (self .exit)) ≡ places (now (self .entry)) ⌝ }
         ensures slice { λ _. ⌜ slice-of (now (self .exit)) ≡ slice-of (now (self .entry)) ⌝ }
     {
@@ -76,7 +76,7 @@ impl<R: NamesSeat + Drop> Roll<'_, R> {
     // Empties the roll; the places stay as they are.
     pub fn clear(&mut self)
         ensures kept { λ _. ⌜ kept (now (self .exit)) ≡ [] ⌝ }
-        ensures beyond { λ _. ⌜ beyond (now (self .exit)) ≡ lent (now (self .entry)) ⌝ }
+        ensures lent { λ _. ⌜ lent (now (self .exit)) ≡ lent (now (self .entry)) ⌝ }
         ensures places { λ _. ⌜ places (now (self .exit)) ≡ places (now (self .entry)) ⌝ }
         ensures slice { λ _. ⌜ slice-of (now (self .exit)) ≡ slice-of (now (self .entry)) ⌝ }
     {

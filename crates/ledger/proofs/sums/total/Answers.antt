@@ -18,7 +18,7 @@ returns-then-not-is-within g c =
     let f = g .R·SignedAmount .amountOf in
     let xs = c .args .records .now in
     let fits : SFits w64 (c .amount-amount .result) = search needs in
-    let past : within (f (c .record-item .result)) ≡ false = ap within (sym (c .amount-amount .ensures) ∙ sym (toZ-ofZ w64 _ fits)) ∙ sym (c .if-not-is-within .ensures tt) in
+    let past : within (f (c .record-item .result)) ≡ false = cc (ap within (toZ-ofZ w64 (c .amount-amount .result) fits)) in
     let none : all-within f xs ≡ false = sym (c .loop-record .inv .1) ∙ past-more f xs (c .loop-record .record-index) (c .record-item .result) (c .loop-record-test .taken) (c .record-item .is) past in
     sym (ap (λ b. cond {A = Option ℤ} b (Some (total-of f xs)) None) none)
 
