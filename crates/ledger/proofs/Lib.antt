@@ -1,0 +1,3 @@
+mod Counts
+mod Places
+mod Totals
