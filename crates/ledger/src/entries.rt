@@ -35,7 +35,7 @@ impl Entry {
     }
 
     // The same for a caller that knows both amounts to be within the limit.
-    pub fn of(round: u32, seat: u8, staked: u64, returned: u64) -> Entry
+    fn of(round: u32, seat: u8, staked: u64, returned: u64) -> Entry
         requires staked { ⌜ staked ≤ most-amount ⌝ }
         requires returned { ⌜ returned ≤ most-amount ⌝ }
         ensures { λ r. ⌜ r ≡ entered round seat staked returned ⌝ }

@@ -51,7 +51,7 @@ impl<R: NamesSeat + Drop> Roll<'_, R> {
     }
 
     // Keeps a record after the others, for a caller that has seen that a place is free.
-    pub fn add(&mut self, record: R)
+    fn add(&mut self, record: R)
         requires room { ⌜ 0 < free (now self) ⌝ }
         ensures kept { λ _. ⌜ kept (now (self .exit)) ≡ kept (now (self .entry)) ++ «record» ∷ [] ⌝ }
         ensures lent { λ _. ⌜ lent (now (self .exit)) ≡ set (lent (now (self .entry))) (length (kept (now (self .entry)))) «record» ⌝ }
