@@ -3,14 +3,14 @@ ghost use mathlib.Core.Path.{_≡_};
 ghost use Prim.Native.Nat.{_≤_};
 ghost use Rattle.makccarat.specs.Cards.{card?, cards?, rank, points};
 
-pub fn rank(card: u8) -> u8
+pub(crate) fn rank(card: u8) -> u8
     ensures { λ r. ⌜ r ≡ rank card ⌝ }
 {
     card / 16
 }
 
 // Whether the byte is a card.
-pub fn is_card(card: u8) -> bool
+fn is_card(card: u8) -> bool
     ensures { λ r. ⌜ r ≡ card? card ⌝ }
 {
     let rank = rank(card);
@@ -18,7 +18,7 @@ pub fn is_card(card: u8) -> bool
 }
 
 // Whether every byte is a card.
-pub fn all_cards(cards: &[u8]) -> bool
+pub(crate) fn all_cards(cards: &[u8]) -> bool
     ensures { λ r. ⌜ r ≡ cards? (now (cards .entry)) ⌝ }
 {
     for card in cards {

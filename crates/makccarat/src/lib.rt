@@ -22,10 +22,14 @@ pub mod posted;
 pub mod opening;
 
 // What a space returns, and what it may cost the bank.
-pub mod payment;
+mod payment;
 
 // The game that the table knows.
 pub mod telling;
 
 // A deal on which the two ways part.
 pub mod checked;
+
+// Rounds worked by hand.
+#[cfg(test)]
+mod tests;

@@ -5,7 +5,7 @@ ghost use Rattle.makccarat.specs.Payment.{won, side-return, tie-return, pair-r
 use crate::side::Side;
 
 // A stake times its odds.
-pub fn times(stake: u32, odds: u16) -> u64
+pub(crate) fn times(stake: u32, odds: u16) -> u64
     ensures product { λ r. ⌜ r ≡ stake * odds ⌝ }
     ensures bound { λ r. ⌜ r < 2 ^ 48 ⌝ }
 {
@@ -13,7 +13,7 @@ pub fn times(stake: u32, odds: u16) -> u64
 }
 
 // A stake that wins at odds of n to 1 returns itself and n times itself.
-pub fn won(stake: u32, odds: u16) -> u64
+pub(crate) fn won(stake: u32, odds: u16) -> u64
     ensures won { λ r. ⌜ r ≡ won stake odds ⌝ }
     ensures bound { λ r. ⌜ r < 2 ^ 49 ⌝ }
 {
@@ -21,7 +21,7 @@ pub fn won(stake: u32, odds: u16) -> u64
 }
 
 // A side's stake pays 1 to 1 if that side wins, and comes back at a tie.
-pub fn side_return(winner: Option<Side>, side: Side, stake: u32) -> u64
+pub(crate) fn side_return(winner: Option<Side>, side: Side, stake: u32) -> u64
     ensures told { λ r. ⌜ r ≡ side-return winner side stake ⌝ }
     ensures bound { λ r. ⌜ r < 2 ^ 49 ⌝ }
 {
@@ -33,7 +33,7 @@ pub fn side_return(winner: Option<Side>, side: Side, stake: u32) -> u64
 }
 
 // A stake on the tie pays its odds at a tie.
-pub fn tie_return(winner: Option<Side>, odds: u16, stake: u32) -> u64
+pub(crate) fn tie_return(winner: Option<Side>, odds: u16, stake: u32) -> u64
     ensures told { λ r. ⌜ r ≡ tie-return winner odds stake ⌝ }
     ensures bound { λ r. ⌜ r < 2 ^ 49 ⌝ }
 {
@@ -44,7 +44,7 @@ pub fn tie_return(winner: Option<Side>, odds: u16, stake: u32) -> u64
 }
 
 // A stake on a pair pays its odds if the pair is held, whoever wins.
-pub fn pair_return(held: bool, odds: u16, stake: u32) -> u64
+pub(crate) fn pair_return(held: bool, odds: u16, stake: u32) -> u64
     ensures told { λ r. ⌜ r ≡ pair-return held odds stake ⌝ }
     ensures bound { λ r. ⌜ r < 2 ^ 49 ⌝ }
 {

@@ -32,7 +32,7 @@ fn first_two(cards: &[u8], side: Side) -> [u8; 2]
 }
 
 // A side's total over its first two cards.
-pub fn first_total(cards: &[u8], side: Side) -> u8
+fn first_total(cards: &[u8], side: Side) -> u8
     ensures { λ r. ⌜ r ≡ first-total (now (cards .entry)) side ⌝ }
 {
     let [one, two] = first_two(cards, side);
@@ -48,7 +48,7 @@ fn total_with(cards: &[u8], side: Side, added: u8) -> u8
 }
 
 // Who adds a card first.
-pub fn adder(cards: &[u8]) -> Option<Side>
+fn adder(cards: &[u8]) -> Option<Side>
     ensures { λ r. ⌜ r ≡ adder (now (cards .entry)) ⌝ }
 {
     let player = first_total(cards, Side::Player);
@@ -63,7 +63,7 @@ pub fn adder(cards: &[u8]) -> Option<Side>
 }
 
 // Whether the other side adds a card too, once this side has added the fifth.
-pub fn answered(way: Way, cards: &[u8], adder: Side) -> bool
+fn answered(way: Way, cards: &[u8], adder: Side) -> bool
     ensures { λ r. ⌜ r ≡ answered way (now (cards .entry)) adder ⌝ }
 {
     let before = first_total(cards, adder);

@@ -9,7 +9,8 @@ pub enum Side {
 }
 
 impl Side {
-    pub fn other(self) -> Side
+    // The side across.
+    pub(crate) fn other(self) -> Side
         ensures { λ r. ⌜ r ≡ other self ⌝ }
     {
         match self {
@@ -18,7 +19,8 @@ impl Side {
         }
     }
 
-    pub fn is(self, side: Side) -> bool
+    // Whether this is that side.
+    pub(crate) fn is(self, side: Side) -> bool
         ensures { λ r. ⌜ r ≡ same self side ⌝ }
     {
         self == side

@@ -2,7 +2,7 @@
 ghost use mathlib.Core.Path.{_≡_};
 ghost use Rattle.makccarat.specs.Ways.{adds-when-level};
 
-#[derive(Clone, Copy, PartialEq, Eq, Debug)]
+#[derive(Clone, Copy)]
 pub enum Way {
     First,
     Second,
@@ -10,7 +10,7 @@ pub enum Way {
 
 impl Way {
     // Whether a side that is level with the one that just added adds a card itself.
-    pub fn adds_when_level(self) -> bool
+    pub(crate) fn adds_when_level(self) -> bool
         ensures { λ r. ⌜ r ≡ adds-when-level self ⌝ }
     {
         match self {
