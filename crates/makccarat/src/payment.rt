@@ -1,7 +1,11 @@
-// What a stake on a space returns.
+// What a stake on a space returns, and what a seat gets and may cost over its five spaces.
 ghost use mathlib.Core.Path.{_≡_};
 ghost use Prim.Native.Nat.{_+_, _*_, _<_, _^_};
-ghost use Rattle.makccarat.specs.Payment.{won, side-return, tie-return, pair-return};
+ghost use Rattle.makccarat.specs.Payment.{won, side-return, tie-return, pair-return, space-returns, space-ceilings};
+ghost use Rattle.std.specs.shelf.Lists.{sum};
+use crate::posted::Makccarat;
+use crate::round::pair;
+use crate::round::winner;
 use crate::side::Side;
 
 // A stake times its odds.
@@ -49,4 +53,31 @@ pub(crate) fn pair_return(held: bool, odds: u16, stake: u32) -> u64
     ensures bound { λ r. ⌜ r < 2 ^ 49 ⌝ }
 {
     if held { won(stake, odds) } else { 0 }
+}
+
+impl Makccarat {
+    // A seat's return, space by space.
+    pub(crate) fn seat_return(&self, stakes: &[u32; 5], cards: &[u8]) -> u64
+        ensures { λ r. ⌜ r ≡ sum (space-returns (now (self .entry)) (now (stakes .entry)) (now (cards .entry))) ⌝ }
+    {
+        let [player, banker, tie, player_pair, banker_pair] = *stakes;
+        let winner = winner(self.way, cards);
+        side_return(winner, Side::Player, player)
+            + side_return(winner, Side::Banker, banker)
+            + tie_return(winner, self.tie, tie)
+            + pair_return(pair(cards, Side::Player), self.pairs, player_pair)
+            + pair_return(pair(cards, Side::Banker), self.pairs, banker_pair)
+    }
+
+    // A seat's ceiling: each stake times its odds, added.
+    pub(crate) fn seat_ceiling(&self, stakes: &[u32; 5]) -> u64
+        ensures { λ r. ⌜ r ≡ sum (space-ceilings (now (self .entry)) (now (stakes .entry))) ⌝ }
+    {
+        let [player, banker, tie, player_pair, banker_pair] = *stakes;
+        times(player, 1)
+            + times(banker, 1)
+            + times(tie, self.tie)
+            + times(player_pair, self.pairs)
+            + times(banker_pair, self.pairs)
+    }
 }

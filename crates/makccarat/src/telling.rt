@@ -1,14 +1,7 @@
 // Makccarat as the table knows it.
 ghost use Rattle.makccarat.specs.Payment.{rules-of};
-use crate::payment::pair_return;
-use crate::payment::side_return;
-use crate::payment::tie_return;
-use crate::payment::times;
 use crate::posted::Makccarat;
 use crate::round::dealing;
-use crate::round::pair;
-use crate::round::winner;
-use crate::side::Side;
 use game::choice::Choice;
 use game::dealing::Dealing;
 use game::interface::Game;
@@ -51,21 +44,10 @@ pub impl Game for Makccarat as MakccaratGame {
         _staking: &[bool; 7],
         cards: &[u8],
     ) -> u64 {
-        let [player, banker, tie, player_pair, banker_pair] = *stakes;
-        let winner = winner(self.way, cards);
-        side_return(winner, Side::Player, player)
-            + side_return(winner, Side::Banker, banker)
-            + tie_return(winner, self.tie, tie)
-            + pair_return(pair(cards, Side::Player), self.pairs, player_pair)
-            + pair_return(pair(cards, Side::Banker), self.pairs, banker_pair)
+        self.seat_return(stakes, cards)
     }
 
     fn ceiling(&self, stakes: &[u32; 5]) -> u64 {
-        let [player, banker, tie, player_pair, banker_pair] = *stakes;
-        times(player, 1)
-            + times(banker, 1)
-            + times(tie, self.tie)
-            + times(player_pair, self.pairs)
-            + times(banker_pair, self.pairs)
+        self.seat_ceiling(stakes)
     }
 }
