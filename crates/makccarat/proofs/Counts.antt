@@ -1,6 +1,6 @@
 -- How many cards a round calls for, and what a lawful deal holds.
 use Prim.Native.Nat.{ℕ, _≤_}
-use mathlib.Core.Path.{_≡_, refl, sym, ap, _∙_}
+use mathlib.Core.Path.{_≡_, refl}
 use mathlib.Core.Bool.{Bool, true, false, cond}
 use mathlib.Core.List.{List}
 use native.Mathlib.Omega.{arith}
@@ -9,7 +9,6 @@ use lib.ListN.{length}
 use Rattle.std.specs.declared.option.Option.{Option}
 use Rattle.std.specs.declared.option.Option.the-variants.{Some, None}
 use Rattle.std.proofs.shelf.Tests.{eqb-true, eq-eqb, ne-eqb}
-use Rattle.game.specs.declared.dealing.Dealing.{Dealing}
 use Rattle.game.specs.declared.dealing.Dealing.the-variants.{Lawful, NoCard, WrongCount}
 use Rattle.makccarat.specs.declared.side.Side.{Side}
 use Rattle.makccarat.specs.declared.way.Way.{Way}

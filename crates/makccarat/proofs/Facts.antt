@@ -1,9 +1,8 @@
 -- Makccarat keeps what every game promises.
-use Prim.Native.Nat.{ℕ, _+_, _*_, _≤_, _<_}
+use Prim.Native.Nat.{ℕ, _+_, _*_, _≤_}
 use mathlib.Core.Path.{_≡_, refl}
 use mathlib.Core.Bool.{Bool, true, false, cond}
 use mathlib.Core.List.{List}
-use mathlib.Core.Logic.{_⊎_, inl, inr}
 use native.Mathlib.Omega.{arith}
 use lib.Dec.{eqb, leb}
 use lib.ListN.{length, getD}
@@ -11,10 +10,9 @@ use Rattle.std.specs.shelf.Lists.{sum}
 use Rattle.std.specs.declared.option.Option.{Option}
 use Rattle.std.specs.declared.option.Option.the-variants.{Some, None}
 use Rattle.std.proofs.shelf.Bits.{mul-le}
-use Rattle.std.proofs.shelf.Tests.{and-parts, leb-true, eqb-true, cond-both}
+use Rattle.std.proofs.shelf.Tests.{and-parts, leb-true, eqb-true}
 use Rattle.std.proofs.shelf.Ways.{tells}
 use Rattle.game.specs.Rules.{Facts, RaiseSpace, Outside, Small}
-use Rattle.game.specs.declared.taking.Taking.the-variants.{NoBets}
 use Rattle.game.proofs.Stakes.{sum-by-places, no-stake-at}
 use Rattle.makccarat.specs.declared.posted.Makccarat.{Makccarat}
 use Rattle.makccarat.specs.declared.side.Side.{Side}
@@ -24,7 +22,7 @@ use Rattle.makccarat.specs.declared.way.Way.the-variants.{First, Second}
 use Rattle.makccarat.specs.Sides.{same}
 use Rattle.makccarat.specs.Ways.{lawful-odds, postable}
 use Rattle.makccarat.specs.Round.{winner, pair}
-use Rattle.makccarat.specs.Payment.{won, side-return, tie-return, pair-return, space-returns, space-ceilings, takes, rules-of}
+use Rattle.makccarat.specs.Payment.{won, side-return, tie-return, space-returns, space-ceilings, rules-of}
 use Rattle.makccarat.proofs.Counts.{four-to-six, lawful-deal}
 
 -- a stake that wins or loses returns at most itself and its odds

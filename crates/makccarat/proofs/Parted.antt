@@ -1,18 +1,16 @@
 -- The deal of ranks 4, 2, 3, 3, 2, 9 in the two ways.
-use Prim.Native.Nat.{ℕ, zero, suc, _+_, _*_, _/_, _%_, _<_, _≤_}
+use Prim.Native.Nat.{ℕ, zero, suc, _≤_}
 use mathlib.Core.Path.{_≡_, refl, sym, ap, _∙_}
 use mathlib.Core.Bool.{true, cond}
 use mathlib.Core.List.{List, [], _∷_}
 use native.Mathlib.Omega.{arith}
 use lib.Dec.{eqb, leb}
-use lib.ListN.{length}
-use Rattle.std.specs.declared.option.Option.the-variants.{Some}
 use Rattle.std.proofs.shelf.Tests.{and-from, le-leb}
 use Rattle.makccarat.specs.declared.side.Side.the-variants.{Player, Banker}
 use Rattle.makccarat.specs.declared.way.Way.the-variants.{First, Second}
 use Rattle.makccarat.specs.Cards.{card?, cards?, rank, suit, points}
-use Rattle.makccarat.specs.Round.{called, final-total, winner, higher}
-use Rattle.makccarat.specs.Laws.{CheckedDeals, Parted, card}
+use Rattle.makccarat.specs.Round.{final-total, higher}
+use Rattle.makccarat.specs.Laws.{CheckedDeals, card}
 use Rattle.makccarat.proofs.Alike.{Alike, called-alike, final-total-alike}
 use Rattle.makccarat.proofs.Counts.{deal-lawful, deal-wrong-count}
 

@@ -1,13 +1,13 @@
 -- What the spaces return and what they may cost the bank.
 use Prim.Native.Nat.{ℕ, _+_, _*_}
-use mathlib.Core.Bool.{Bool, true, false, cond, _||_}
+use mathlib.Core.Bool.{Bool, false, cond, _||_}
 use mathlib.Core.List.{List, [], _∷_}
 use lib.Dec.{eqb, ltb}
 use lib.ListN.{getD}
 use Rattle.std.specs.shelf.Lists.{sum}
 use Rattle.std.specs.declared.option.Option.{Option}
 use Rattle.std.specs.declared.option.Option.the-variants.{Some, None}
-use Rattle.game.specs.Rules.{Rules, Deal}
+use Rattle.game.specs.Rules.{Rules}
 use Rattle.game.specs.declared.taking.Taking.{Taking}
 use Rattle.game.specs.declared.taking.Taking.the-variants.{Takes, NoBets, NoCompanion}
 use Rattle.makccarat.specs.declared.posted.Makccarat.{Makccarat}

@@ -1,6 +1,6 @@
 // Opening: a way with its odds from the conditions of a table.
 ghost use mathlib.Core.Path.{_≡_};
-ghost use Rattle.makccarat.specs.Ways.{conditions, postable, tie-odds, pair-odds};
+ghost use Rattle.makccarat.specs.Ways.{conditions, postable};
 ghost use Rattle.makccarat.specs.Opening.{Opened};
 use crate::posted::Makccarat;
 use crate::way::Way;
