@@ -1,0 +1,5 @@
+pub mod Cards
+pub mod FiveClasses
+pub mod Order
+pub mod Ranks
+pub mod ThreeClasses

@@ -1,0 +1,11 @@
+// The grading of hands: the class of three or five cards, and which of two hands is higher.
+pub mod comparisons; // The answer of a comparison of two hands.
+pub mod three_classes; // The classes of three cards.
+pub mod five_classes; // The classes of five cards.
+pub mod order; // What every order of hands promises.
+pub mod cards; // Which bytes are cards, and what a list of them holds.
+
+pub use comparisons::Comparison;
+pub use five_classes::FiveClass;
+pub use order::Order;
+pub use three_classes::ThreeClass;
