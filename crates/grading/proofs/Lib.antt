@@ -1,1 +1,5 @@
 mod Each
+mod Finite
+mod FiveChecked
+mod Shuffles
+mod ThreeChecked

@@ -1,5 +1,10 @@
+pub mod Admission
 pub mod Cards
+pub mod Five
 pub mod FiveClasses
+pub mod Grading
 pub mod Order
 pub mod Ranks
+pub mod Steps
+pub mod Three
 pub mod ThreeClasses

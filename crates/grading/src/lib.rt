@@ -4,6 +4,9 @@ pub mod three_classes; // The classes of three cards.
 pub mod five_classes; // The classes of five cards.
 pub mod order; // What every order of hands promises.
 pub mod cards; // Which bytes are cards, and what a list of them holds.
+pub mod ranks; // Ranks in a row, and cards in order.
+pub mod three; // Hands of three cards.
+pub mod five; // Hands of five cards.
 
 pub use comparisons::Comparison;
 pub use five_classes::FiveClass;
