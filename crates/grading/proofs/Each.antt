@@ -1,6 +1,7 @@
 -- A loop that looks at each byte in turn: what it knows at a turn, at its end, and where a byte fails.
 use mathlib.Core.Path.{_≡_, sym, ap, _∙_}
-use mathlib.Core.Bool.{Bool, true, false}
+use mathlib.Core.Bool.{Bool, true, false, cond}
+use mathlib.Core.Logic.{⊎-elim}
 use mathlib.Core.List.{List}
 use Prim.Native.Nat.{ℕ, _+_, _<_, _≤_}
 use native.Mathlib.Omega.{arith}
@@ -8,9 +9,8 @@ use lib.ListN.{length, getD, take, drop}
 use Rattle.std.specs.shelf.Lists.{countBy}
 use Rattle.std.proofs.shelf.Lists.{length-take-le, length-drop, take-all}
 use Rattle.std.proofs.shelf.Sums.{countBy-le-length, countBy-more-yes, countBy-more-no, sumBy-take-drop}
-use Rattle.std.proofs.shelf.Tests.{eq-eqb, ne-eqb}
+use Rattle.std.proofs.shelf.Tests.{both-ways, cases-bool, eq-eqb, ne-eqb}
 use Rattle.grading.specs.Cards.{each}
-use mathlib.Core.Bool.{cond}
 
 -- the first i bytes pass
 abbrev pub Passed : (ℕ → Bool) → List ℕ → ℕ → Type 0
@@ -33,3 +33,8 @@ not-each p cs i h fails =
     let front-long : length (take i cs) ≡ i = length-take-le i cs (omega arith) in
     let back-long = length-drop (i + 1) cs in
     ne-eqb (countBy p cs) (length cs) (λ e. omega (arith, e))
+
+-- each byte passes, so the byte at i does
+pub at-each : (p : ℕ → Bool) (cs : List ℕ) (i : ℕ) → each p cs ≡ true → i < length cs → p (getD cs i 0) ≡ true
+at-each p cs i all h =
+    ⊎-elim (λ passes. passes) (λ fails. absurd (both-ways (each p cs) (not-each p cs i h fails) all)) (cases-bool (p (getD cs i 0)))

@@ -9,7 +9,7 @@ use Rattle.std.specs.Vec.{listOf}
 use Rattle.std.specs.declared.option.Option.{Option}
 use Rattle.grading.specs.Cards.{one-suit, tally, highest-suit}
 use Rattle.grading.specs.FiveClasses.{five-below}
-use Rattle.grading.specs.Order.{by-numbers}
+use Rattle.grading.specs.Order.{by-parts}
 use Rattle.grading.specs.Ranks.{Held, held, sequence, padded}
 use Rattle.grading.specs.declared.comparisons.Comparison.{Comparison}
 use Rattle.grading.specs.declared.five.FiveHand.{FiveHand}
@@ -93,9 +93,9 @@ deciding-suit x cs = cond (suit-counts (x .class)) (highest-suit cs (getD (x .ra
 unfoldable pub five-hand : List ℕ → FiveHand
 five-hand cs = record { class = five-ranked cs .class; ranks = five-ranked cs .ranks; suit = deciding-suit (five-ranked cs) cs }
 
--- graded hands: the higher class is higher; within a class the first rank that differs decides, and then the suit
+-- graded hands are compared by class, then by ranks from the first, and then by the suit that decides
+abbrev pub five-parts : FiveHand → List (List ℕ)
+five-parts h = (five-below (h .class) ∷ []) ∷ h .ranks ∷ (h .suit ∷ []) ∷ []
+
 unfoldable pub five-order : FiveHand → FiveHand → Comparison
-five-order g h =
-    by-numbers
-    (five-below (g .class) ∷ g .ranks ++ g .suit ∷ [])
-    (five-below (h .class) ∷ h .ranks ++ h .suit ∷ [])
+five-order g h = by-parts (five-parts g) (five-parts h)

@@ -1,8 +1,8 @@
--- The answer of a comparison: lists of numbers are compared by the first that differ.
+-- The answer of a comparison, and hands compared part by part.
 use mathlib.Core.List.{List}
 use Prim.Native.Nat.{ℕ}
 use Rattle.std.specs.Keys.{unsigned}
-use Rattle.std.specs.Lexical.{lex}
+use Rattle.std.specs.Lexical.{lex, lexical}
 use Rattle.std.specs.declared.cmp.Ordering.{Ordering}
 use Rattle.std.specs.declared.cmp.Ordering.the-variants.{Less, Equal, Greater}
 use Rattle.grading.specs.declared.comparisons.Comparison.{Comparison}
@@ -20,6 +20,6 @@ as-comparison Less = Lower
 as-comparison Equal = Alike
 as-comparison Greater = Higher
 
--- lists of numbers, by the first place where they differ
-abbrev pub by-numbers : List ℕ → List ℕ → Comparison
-by-numbers ms ns = as-comparison (lex unsigned ms ns)
+-- hands told part by part, each a list of numbers: the first part that differs decides, and in it the first number that differs
+abbrev pub by-parts : List (List ℕ) → List (List ℕ) → Comparison
+by-parts ms ns = as-comparison (lex (lexical unsigned) ms ns)

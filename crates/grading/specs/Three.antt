@@ -8,7 +8,7 @@ use Rattle.std.specs.Options.{isSome}
 use Rattle.std.specs.Vec.{listOf}
 use Rattle.std.specs.declared.option.Option.{Option}
 use Rattle.grading.specs.Cards.{one-suit, tally}
-use Rattle.grading.specs.Order.{by-numbers}
+use Rattle.grading.specs.Order.{by-parts}
 use Rattle.grading.specs.Ranks.{Held, held, sequence, padded}
 use Rattle.grading.specs.ThreeClasses.{three-below}
 use Rattle.grading.specs.declared.comparisons.Comparison.{Comparison}
@@ -53,6 +53,9 @@ three-hand-by head h level = three-hand-at (three-class-by head h level) head h
 unfoldable pub three-hand : List ℕ → ThreeHand
 three-hand cs = three-hand-by (sequence 3 (held (tally cs) .ones)) (held (tally cs)) (one-suit cs)
 
--- graded hands: the higher class is higher; within a class the first rank that differs decides, and hands of the same ranks are alike
+-- graded hands are compared by class, and then by ranks from the first; hands of one class and the same ranks are alike
+abbrev pub three-parts : ThreeHand → List (List ℕ)
+three-parts h = (three-below (h .class) ∷ []) ∷ h .ranks ∷ []
+
 unfoldable pub three-order : ThreeHand → ThreeHand → Comparison
-three-order g h = by-numbers (three-below (g .class) ∷ g .ranks) (three-below (h .class) ∷ h .ranks)
+three-order g h = by-parts (three-parts g) (three-parts h)

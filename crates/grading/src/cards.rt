@@ -69,7 +69,7 @@ pub fn are_of_one_suit(cards: &[u8]) -> bool
 
 // The highest suit in which the cards hold a rank; 0 where they do not hold it.
 pub(crate) fn highest_suit(cards: &[u8], rank: u8) -> u8
-    requires { ⌜ rank ≤ 14 ⌝ }
+    requires { ⌜ rank ≤ 15 ⌝ }
     ensures { λ r. ⌜ r ≡ highest-suit (now (cards .entry)) rank ⌝ }
 {
     if copies(16 * rank + 3, cards) != 0 {

@@ -4,12 +4,18 @@ ghost use mathlib.Core.Bool.{true};
 ghost use Prim.Native.Nat.{_≤_};
 ghost use lib.ListN.{length, getD};
 ghost use Rattle.grading.specs.Admission.{is-hand};
-ghost use Rattle.grading.specs.Five.{five-hand, five-order};
-ghost use Rattle.grading.specs.FiveClasses.{five-below};
+ghost use Rattle.grading.specs.Five.{five-hand, five-order, five-ranked, suit-counts};
 ghost use Rattle.grading.specs.Grading.{five-graded, five-class, five-compared};
 ghost use Rattle.grading.specs.Steps.{five-sorted, five-paired};
+use crate::admission::admit;
+use crate::cards::are_of_one_suit;
+use crate::cards::highest_suit;
+use crate::comparisons::Comparison;
 use crate::five_classes::FiveClass;
+use crate::order::Order;
 use crate::ranks::head_of;
+use crate::ranks::put_in_order;
+use refusals::Refusal;
 
 // A graded hand: its class, the ranks that it is compared by within the class, 0 in places not in use, and the suit that decides
 // where these are level, 0 where none does.
@@ -29,7 +35,9 @@ struct Ranked {
 
 // Five ranks from the highest, of which some are alike, but no three.
 fn by_pairs(a: u8, b: u8, c: u8, d: u8, e: u8) -> Ranked
-    ensures { λ r. ⌜ r ≡ five-paired a b c d e ⌝ }
+    requires { ⌜ a ≤ 15 ⌝ ∗ ⌜ b ≤ 15 ⌝ ∗ ⌜ c ≤ 15 ⌝ ∗ ⌜ d ≤ 15 ⌝ }
+    ensures ranked { λ r. ⌜ r ≡ five-paired a b c d e ⌝ }
+    ensures rank { λ r. ⌜ getD (r .ranks) 0 0 ≤ 15 ⌝ }
 {
     if a == b && c == d {
         return Ranked {
@@ -75,8 +83,9 @@ fn by_pairs(a: u8, b: u8, c: u8, d: u8, e: u8) -> Ranked
 
 // Five ranks from the highest, of one suit or not.
 fn by_ranks(a: u8, b: u8, c: u8, d: u8, e: u8, one_suit: bool) -> Ranked
-    requires { ⌜ e ≤ 14 ⌝ }
-    ensures { λ r. ⌜ r ≡ five-sorted a b c d e «one_suit» ⌝ }
+    requires { ⌜ a ≤ 15 ⌝ ∗ ⌜ b ≤ 15 ⌝ ∗ ⌜ c ≤ 15 ⌝ ∗ ⌜ d ≤ 15 ⌝ ∗ ⌜ e ≤ 15 ⌝ }
+    ensures ranked { λ r. ⌜ r ≡ five-sorted a b c d e «one_suit» ⌝ }
+    ensures rank { λ r. ⌜ getD (r .ranks) 0 0 ≤ 15 ⌝ }
 {
     if a == d || b == e {
         return Ranked {
@@ -124,5 +133,74 @@ fn by_ranks(a: u8, b: u8, c: u8, d: u8, e: u8, one_suit: bool) -> Ranked
                 ranks: [a, b, c, d, e],
             }
         }
+    }
+}
+
+// Whether a suit decides between hands of a class whose ranks are level.
+fn suit_counts(class: FiveClass) -> bool
+    ensures { λ r. ⌜ r ≡ suit-counts class ⌝ }
+{
+    match class {
+        FiveClass::Four | FiveClass::FullHouse | FiveClass::Three => false,
+        _ => true,
+    }
+}
+
+// The class of five different cards, and the ranks that they are compared by.
+fn ranks_of(cards: &[u8]) -> Ranked
+    requires { ⌜ is-hand 5 (now cards) ≡ true ⌝ }
+    ensures ranked { λ r. ⌜ r ≡ five-ranked (now (cards .entry)) ⌝ }
+    ensures rank { λ r. ⌜ getD (r .ranks) 0 0 ≤ 15 ⌝ }
+{
+    let mut sorted = [cards[0], cards[1], cards[2], cards[3], cards[4]];
+    put_in_order(&mut sorted);
+    by_ranks(
+        sorted[4] / 16,
+        sorted[3] / 16,
+        sorted[2] / 16,
+        sorted[1] / 16,
+        sorted[0] / 16,
+        are_of_one_suit(cards),
+    )
+}
+
+// The graded hand of five different cards.
+fn of_five(cards: &[u8]) -> FiveHand
+    requires { ⌜ is-hand 5 (now cards) ≡ true ⌝ }
+    ensures { λ r. ⌜ r ≡ five-hand (now (cards .entry)) ⌝ }
+{
+    let Ranked { class, ranks } = ranks_of(cards);
+    let suit = if suit_counts(class) {
+        highest_suit(cards, ranks[0])
+    } else {
+        0
+    };
+    FiveHand { class, ranks, suit }
+}
+
+// Grades five cards; refuses a byte that is no card or stands there twice with 12, before any other number of cards with 13.
+pub fn grade_five(cards: &[u8]) -> Result<FiveHand, Refusal>
+    ensures { λ r. ⌜ r ≡ five-graded (now (cards .entry)) ⌝ }
+{
+    admit(5, cards)?;
+    Ok(of_five(cards))
+}
+
+impl FiveHand {
+    // The class of the graded hand.
+    pub fn class(&self) -> FiveClass
+        ensures { λ r. ⌜ r ≡ now (self .entry) .class ⌝ }
+    {
+        self.class
+    }
+}
+
+pub impl Order for FiveHand as FiveOrder {
+    ghost order = { five-order };
+
+    fn compare(&self, other: &FiveHand) -> Comparison {
+        let classes = self.class.below().cmp(&other.class.below());
+        let ranks = self.ranks.cmp(&other.ranks);
+        Comparison::of_numbers(classes.then(ranks).then(self.suit.cmp(&other.suit)))
     }
 }

@@ -1,6 +1,6 @@
 // The classes of five cards, downward.
 ghost use mathlib.Core.Path.{_≡_};
-ghost use Rattle.grading.specs.FiveClasses.{five-word};
+ghost use Rattle.grading.specs.FiveClasses.{five-word, five-below};
 
 #[derive(Clone, Copy, PartialEq, Eq, Debug)]
 pub enum FiveClass {
@@ -33,5 +33,12 @@ impl FiveClass {
             FiveClass::Pair => "pair",
             FiveClass::OddCards => "odd cards",
         }
+    }
+
+    // How many classes are lower.
+    pub fn below(self) -> u8
+        ensures { λ r. ⌜ r ≡ five-below self ⌝ }
+    {
+        9 - self as u8
     }
 }

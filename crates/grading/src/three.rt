@@ -7,13 +7,14 @@ ghost use Rattle.grading.specs.Admission.{is-hand};
 ghost use Rattle.grading.specs.Grading.{three-graded};
 ghost use Rattle.grading.specs.Steps.{three-sorted};
 ghost use Rattle.grading.specs.Three.{three-hand, three-order};
-ghost use Rattle.grading.specs.ThreeClasses.{three-below};
+use crate::admission::admit;
 use crate::cards::are_of_one_suit;
 use crate::comparisons::Comparison;
 use crate::order::Order;
 use crate::ranks::head_of;
 use crate::ranks::put_in_order;
 use crate::three_classes::ThreeClass;
+use refusals::Refusal;
 
 // A graded hand: its class, and the ranks that it is compared by within the class, 0 in places not in use.
 #[derive(Clone, Copy)]
@@ -24,7 +25,7 @@ pub struct ThreeHand {
 
 // The hand of three ranks from the highest, of one suit or not.
 fn by_ranks(high: u8, middle: u8, low: u8, one_suit: bool) -> ThreeHand
-    requires { ⌜ low ≤ 14 ⌝ }
+    requires { ⌜ low ≤ 15 ⌝ }
     ensures { λ r. ⌜ r ≡ three-sorted high middle low «one_suit» ⌝ }
 {
     if high == low {
@@ -68,5 +69,46 @@ fn by_ranks(high: u8, middle: u8, low: u8, one_suit: bool) -> ThreeHand
                 ranks: [high, middle, low],
             }
         }
+    }
+}
+
+// The graded hand of three different cards.
+fn of_three(cards: &[u8]) -> ThreeHand
+    requires { ⌜ is-hand 3 (now cards) ≡ true ⌝ }
+    ensures { λ r. ⌜ r ≡ three-hand (now (cards .entry)) ⌝ }
+{
+    let mut sorted = [cards[0], cards[1], cards[2]];
+    put_in_order(&mut sorted);
+    by_ranks(
+        sorted[2] / 16,
+        sorted[1] / 16,
+        sorted[0] / 16,
+        are_of_one_suit(cards),
+    )
+}
+
+// Grades three cards; refuses a byte that is no card or stands there twice with 12, before any other number of cards with 13.
+pub fn grade_three(cards: &[u8]) -> Result<ThreeHand, Refusal>
+    ensures { λ r. ⌜ r ≡ three-graded (now (cards .entry)) ⌝ }
+{
+    admit(3, cards)?;
+    Ok(of_three(cards))
+}
+
+impl ThreeHand {
+    // The class of the graded hand.
+    pub fn class(&self) -> ThreeClass
+        ensures { λ r. ⌜ r ≡ now (self .entry) .class ⌝ }
+    {
+        self.class
+    }
+}
+
+pub impl Order for ThreeHand as ThreeOrder {
+    ghost order = { three-order };
+
+    fn compare(&self, other: &ThreeHand) -> Comparison {
+        let classes = self.class.below().cmp(&other.class.below());
+        Comparison::of_numbers(classes.then(self.ranks.cmp(&other.ranks)))
     }
 }

@@ -1,6 +1,6 @@
 // The classes of three cards, downward.
 ghost use mathlib.Core.Path.{_≡_};
-ghost use Rattle.grading.specs.ThreeClasses.{three-word};
+ghost use Rattle.grading.specs.ThreeClasses.{three-word, three-below};
 
 #[derive(Clone, Copy, PartialEq, Eq, Debug)]
 pub enum ThreeClass {
@@ -25,5 +25,12 @@ impl ThreeClass {
             ThreeClass::Pair => "pair",
             ThreeClass::OddCards => "odd cards",
         }
+    }
+
+    // How many classes are lower.
+    pub fn below(self) -> u8
+        ensures { λ r. ⌜ r ≡ three-below self ⌝ }
+    {
+        5 - self as u8
     }
 }
