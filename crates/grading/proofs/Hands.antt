@@ -12,10 +12,11 @@ use Rattle.std.proofs.shelf.Sorted.{length-shuffled}
 use Rattle.std.proofs.shelf.Tests.{and-parts, eqb-true, leb-true}
 use Rattle.grading.specs.Admission.{is-hand}
 use Rattle.grading.specs.Cards.{rank-of, suit-of, is-card, copies-of, is-single-card, different-cards, one-suit, tally}
-use Rattle.grading.specs.Five.{five-ranked, five-ranked-by}
+use Rattle.grading.specs.Five.{five-ranked, five-ranked-by, five-of}
+use Rattle.grading.specs.Laws.{Three-only, Five-only}
 use Rattle.grading.specs.Ranks.{held, sequence}
 use Rattle.grading.specs.Steps.{three-sorted, five-sorted}
-use Rattle.grading.specs.Three.{three-hand, three-hand-by}
+use Rattle.grading.specs.Three.{three-hand, three-hand-by, three-of}
 use Rattle.grading.proofs.Each.{at-each}
 use Rattle.grading.proofs.Finite.{among}
 use Rattle.grading.proofs.FiveChecked as of-five
@@ -96,6 +97,14 @@ module _ (cs s : List ℕ) (sh : Shuffled cs s) (up : Rising s) where
       of-three.sorted-is-rule (one-suit cs) (getD s 2 0 / 16) (getD s 1 0 / 16) (getD s 0 0 / 16) (three-falling hand)
       ∙ (λ i. three-hand-by (sequence 3 (held (three-tally hand i) .ones)) (held (three-tally hand i)) (one-suit cs))
 
+  -- the cards are of the class that the rule gives them, and of no other
+  pub three-only : is-hand 3 cs ≡ true → Three-only cs (three-hand cs .class)
+  unfolding three-hand three-of
+  three-only hand =
+      let only : of-three.Only (one-suit cs) (held (tally cs)) =
+      subst (λ t. of-three.Only (one-suit cs) (held t)) (three-tally hand) (of-three.of-one-class (one-suit cs) (getD s 2 0 / 16) (getD s 1 0 / 16) (getD s 0 0 / 16) (three-falling hand)) in
+      record { is = only .is; no-other = only .no-other }
+
   five-falling : is-hand 5 cs ≡ true → of-five.Falling (getD s 4 0 / 16) (getD s 3 0 / 16) (getD s 2 0 / 16) (getD s 1 0 / 16) (getD s 0 0 / 16)
   five-falling hand =
       let n : length s ≡ 5 = length-shuffled cs s sh ∙ hand-length 5 cs hand in
@@ -124,3 +133,11 @@ module _ (cs s : List ℕ) (sh : Shuffled cs s) (up : Rising s) where
   five-sorted-is-ranked hand =
       of-five.sorted-is-rule (one-suit cs) (getD s 4 0 / 16) (getD s 3 0 / 16) (getD s 2 0 / 16) (getD s 1 0 / 16) (getD s 0 0 / 16) (five-falling hand)
       ∙ (λ i. five-ranked-by (sequence 5 (held (five-tally hand i) .ones)) (held (five-tally hand i)) (one-suit cs))
+
+  -- the cards are of the class that the rule gives them, and of no other
+  pub five-only : is-hand 5 cs ≡ true → Five-only cs (five-ranked cs .class)
+  unfolding five-ranked five-of
+  five-only hand =
+      let only : of-five.Only (one-suit cs) (held (tally cs)) =
+      subst (λ t. of-five.Only (one-suit cs) (held t)) (five-tally hand) (of-five.of-one-class (one-suit cs) (getD s 4 0 / 16) (getD s 3 0 / 16) (getD s 2 0 / 16) (getD s 1 0 / 16) (getD s 0 0 / 16) (five-falling hand)) in
+      record { is = only .is; no-other = only .no-other }

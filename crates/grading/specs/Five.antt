@@ -93,6 +93,10 @@ deciding-suit x cs = cond (suit-counts (x .class)) (highest-suit cs (getD (x .ra
 unfoldable pub five-hand : List ℕ → FiveHand
 five-hand cs = record { class = five-ranked cs .class; ranks = five-ranked cs .ranks; suit = deciding-suit (five-ranked cs) cs }
 
+-- whether five cards are of a class
+unfoldable pub five-of : FiveClass → List ℕ → Bool
+five-of k cs = five-is k (sequence 5 (held (tally cs) .ones)) (held (tally cs)) (one-suit cs)
+
 -- graded hands are compared by class, then by ranks from the first, and then by the suit that decides
 abbrev pub five-parts : FiveHand → List (List ℕ)
 five-parts h = (five-below (h .class) ∷ []) ∷ h .ranks ∷ (h .suit ∷ []) ∷ []

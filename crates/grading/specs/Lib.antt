@@ -3,6 +3,7 @@ pub mod Cards
 pub mod Five
 pub mod FiveClasses
 pub mod Grading
+pub mod Laws
 pub mod Order
 pub mod Ranks
 pub mod Steps

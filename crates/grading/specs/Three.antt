@@ -53,6 +53,10 @@ three-hand-by head h level = three-hand-at (three-class-by head h level) head h
 unfoldable pub three-hand : List ℕ → ThreeHand
 three-hand cs = three-hand-by (sequence 3 (held (tally cs) .ones)) (held (tally cs)) (one-suit cs)
 
+-- whether three cards are of a class
+unfoldable pub three-of : ThreeClass → List ℕ → Bool
+three-of k cs = three-is k (sequence 3 (held (tally cs) .ones)) (held (tally cs)) (one-suit cs)
+
 -- graded hands are compared by class, and then by ranks from the first; hands of one class and the same ranks are alike
 abbrev pub three-parts : ThreeHand → List (List ℕ)
 three-parts h = (three-below (h .class) ∷ []) ∷ h .ranks ∷ []

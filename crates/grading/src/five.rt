@@ -5,9 +5,12 @@ ghost use Prim.Native.Nat.{_≤_};
 ghost use lib.ListN.{length, getD};
 ghost use Rattle.grading.specs.Admission.{is-hand};
 ghost use Rattle.grading.specs.Five.{five-hand, five-order, five-ranked, suit-counts};
+ghost use Rattle.grading.specs.FiveClasses.{five-below};
 ghost use Rattle.grading.specs.Grading.{five-graded, five-class, five-compared};
+ghost use Rattle.grading.specs.Laws.{Five-only, In-any-order, In-any-orders, Of-one-class, Higher-class-wins, swapped as answer-swapped};
 ghost use Rattle.grading.specs.Steps.{five-sorted, five-paired};
 use crate::admission::admit;
+use crate::admission::admit_both;
 use crate::cards::are_of_one_suit;
 use crate::cards::highest_suit;
 use crate::comparisons::Comparison;
@@ -150,6 +153,7 @@ fn suit_counts(class: FiveClass) -> bool
 fn ranks_of(cards: &[u8]) -> Ranked
     requires { ⌜ is-hand 5 (now cards) ≡ true ⌝ }
     ensures ranked { λ r. ⌜ r ≡ five-ranked (now (cards .entry)) ⌝ }
+    ensures only { λ r. ⌜ Five-only (now (cards .entry)) (r .class) ⌝ }
     ensures rank { λ r. ⌜ getD (r .ranks) 0 0 ≤ 15 ⌝ }
 {
     let mut sorted = [cards[0], cards[1], cards[2], cards[3], cards[4]];
@@ -167,7 +171,8 @@ fn ranks_of(cards: &[u8]) -> Ranked
 // The graded hand of five different cards.
 fn of_five(cards: &[u8]) -> FiveHand
     requires { ⌜ is-hand 5 (now cards) ≡ true ⌝ }
-    ensures { λ r. ⌜ r ≡ five-hand (now (cards .entry)) ⌝ }
+    ensures hand { λ r. ⌜ r ≡ five-hand (now (cards .entry)) ⌝ }
+    ensures only { λ r. ⌜ Five-only (now (cards .entry)) (r .class) ⌝ }
 {
     let Ranked { class, ranks } = ranks_of(cards);
     let suit = if suit_counts(class) {
@@ -184,6 +189,27 @@ pub fn grade_five(cards: &[u8]) -> Result<FiveHand, Refusal>
 {
     admit(5, cards)?;
     Ok(of_five(cards))
+}
+
+// The class of five cards; refuses as grading them does.
+pub fn five_class(cards: &[u8]) -> Result<FiveClass, Refusal>
+    ensures class { λ r. ⌜ r ≡ five-class (now (cards .entry)) ⌝ }
+    ensures any_order { λ r. ⌜ In-any-order five-class (now (cards .entry)) r ⌝ }
+    ensures one_class { λ r. ⌜ Of-one-class Five-only 5 (now (cards .entry)) r ⌝ }
+{
+    admit(5, cards)?;
+    Ok(of_five(cards).class)
+}
+
+// How the first of two hands of five cards compares with the second; refuses 12 for either before 13 for either.
+pub fn five_compare(first: &[u8], second: &[u8]) -> Result<Comparison, Refusal>
+    ensures answer { λ r. ⌜ r ≡ five-compared (now (first .entry)) (now (second .entry)) ⌝ }
+    ensures any_order { λ r. ⌜ In-any-orders five-compared (now (first .entry)) (now (second .entry)) r ⌝ }
+    ensures swapped { λ r. ⌜ five-compared (now (second .entry)) (now (first .entry)) ≡ answer-swapped r ⌝ }
+    ensures classes { λ r. ⌜ Higher-class-wins five-below five-class (now (first .entry)) (now (second .entry)) r ⌝ }
+{
+    admit_both(5, first, second)?;
+    Ok(of_five(first).compare(&of_five(second)))
 }
 
 impl FiveHand {

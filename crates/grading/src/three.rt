@@ -4,10 +4,13 @@ ghost use mathlib.Core.Bool.{true};
 ghost use Prim.Native.Nat.{_≤_};
 ghost use lib.ListN.{length};
 ghost use Rattle.grading.specs.Admission.{is-hand};
-ghost use Rattle.grading.specs.Grading.{three-graded};
+ghost use Rattle.grading.specs.Grading.{three-graded, three-class, three-compared};
+ghost use Rattle.grading.specs.Laws.{Three-only, In-any-order, In-any-orders, Of-one-class, Higher-class-wins, swapped as answer-swapped};
 ghost use Rattle.grading.specs.Steps.{three-sorted};
 ghost use Rattle.grading.specs.Three.{three-hand, three-order};
+ghost use Rattle.grading.specs.ThreeClasses.{three-below};
 use crate::admission::admit;
+use crate::admission::admit_both;
 use crate::cards::are_of_one_suit;
 use crate::comparisons::Comparison;
 use crate::order::Order;
@@ -75,7 +78,8 @@ fn by_ranks(high: u8, middle: u8, low: u8, one_suit: bool) -> ThreeHand
 // The graded hand of three different cards.
 fn of_three(cards: &[u8]) -> ThreeHand
     requires { ⌜ is-hand 3 (now cards) ≡ true ⌝ }
-    ensures { λ r. ⌜ r ≡ three-hand (now (cards .entry)) ⌝ }
+    ensures hand { λ r. ⌜ r ≡ three-hand (now (cards .entry)) ⌝ }
+    ensures only { λ r. ⌜ Three-only (now (cards .entry)) (r .class) ⌝ }
 {
     let mut sorted = [cards[0], cards[1], cards[2]];
     put_in_order(&mut sorted);
@@ -93,6 +97,27 @@ pub fn grade_three(cards: &[u8]) -> Result<ThreeHand, Refusal>
 {
     admit(3, cards)?;
     Ok(of_three(cards))
+}
+
+// The class of three cards; refuses as grading them does.
+pub fn three_class(cards: &[u8]) -> Result<ThreeClass, Refusal>
+    ensures class { λ r. ⌜ r ≡ three-class (now (cards .entry)) ⌝ }
+    ensures any_order { λ r. ⌜ In-any-order three-class (now (cards .entry)) r ⌝ }
+    ensures one_class { λ r. ⌜ Of-one-class Three-only 3 (now (cards .entry)) r ⌝ }
+{
+    admit(3, cards)?;
+    Ok(of_three(cards).class)
+}
+
+// How the first of two hands of three cards compares with the second; refuses 12 for either before 13 for either.
+pub fn three_compare(first: &[u8], second: &[u8]) -> Result<Comparison, Refusal>
+    ensures answer { λ r. ⌜ r ≡ three-compared (now (first .entry)) (now (second .entry)) ⌝ }
+    ensures any_order { λ r. ⌜ In-any-orders three-compared (now (first .entry)) (now (second .entry)) r ⌝ }
+    ensures swapped { λ r. ⌜ three-compared (now (second .entry)) (now (first .entry)) ≡ answer-swapped r ⌝ }
+    ensures classes { λ r. ⌜ Higher-class-wins three-below three-class (now (first .entry)) (now (second .entry)) r ⌝ }
+{
+    admit_both(3, first, second)?;
+    Ok(of_three(first).compare(&of_three(second)))
 }
 
 impl ThreeHand {

@@ -19,4 +19,4 @@ pub returns : need.returns
 unfolding five-graded
 returns c =
     let cs = c .args .cards .now in
-    ap Ok (c .of-five .ensures) ∙ given-too (first-cause (hand-causes 5 cs)) tt (c .in-Continue-admit .field-0) (five-hand cs) (c .in-Continue-admit .ensures tt)
+    ap Ok (c .of-five .ensures .hand) ∙ given-too (first-cause (hand-causes 5 cs)) tt (c .in-Continue-admit .field-0) (five-hand cs) (c .in-Continue-admit .ensures tt)

@@ -14,7 +14,10 @@ returns-then-suit-counts c =
     c .highest-suit-suit .ensures
     ∙ ap (λ b. cond b (highest-suit cs (getD (c .ranks-of-class .result .ranks) 0 0)) 0) (c .if-suit-counts .ensures tt)
     ∙ ap (λ y. deciding-suit y cs) x in
-    λ i. record { class = x i .class; ranks = x i .ranks; suit = suit i }
+    record {
+      hand = λ i. record { class = x i .class; ranks = x i .ranks; suit = suit i };
+      only = c .ranks-of-class .ensures .only;
+    }
 
 pub returns-else-suit-counts : need.returns-else-suit-counts
 unfolding five-hand
@@ -24,4 +27,7 @@ returns-else-suit-counts c =
     let suit : 0 ≡ deciding-suit (five-ranked cs) cs =
     ap (λ b. cond b (highest-suit cs (getD (c .ranks-of-class .result .ranks) 0 0)) 0) (c .if-suit-counts .ensures tt)
     ∙ ap (λ y. deciding-suit y cs) x in
-    λ i. record { class = x i .class; ranks = x i .ranks; suit = suit i }
+    record {
+      hand = λ i. record { class = x i .class; ranks = x i .ranks; suit = suit i };
+      only = c .ranks-of-class .ensures .only;
+    }

@@ -19,4 +19,4 @@ pub returns : need.returns
 unfolding three-graded
 returns c =
     let cs = c .args .cards .now in
-    ap Ok (c .of-three .ensures) ∙ given-too (first-cause (hand-causes 3 cs)) tt (c .in-Continue-admit .field-0) (three-hand cs) (c .in-Continue-admit .ensures tt)
+    ap Ok (c .of-three .ensures .hand) ∙ given-too (first-cause (hand-causes 3 cs)) tt (c .in-Continue-admit .field-0) (three-hand cs) (c .in-Continue-admit .ensures tt)
