@@ -1,9 +1,8 @@
 -- What makes a game: what it tells, and what it promises for any stakes up to a million a space, any choice it allows and any lawful deal.
-use Prim.Native.Nat.{ℕ, _+_, _<_, _≤_}
+use Prim.Native.Nat.{ℕ, _+_, _≤_}
 use mathlib.Core.Path.{_≡_}
 use mathlib.Core.Bool.{Bool, true, false}
 use mathlib.Core.List.{List}
-use mathlib.Core.Logic.{_⊎_}
 use lib.ListN.{length, getD}
 use Rattle.std.specs.shelf.Lists.{sum}
 use Rattle.game.specs.declared.choice.Choice.{Choice}
@@ -24,7 +23,7 @@ deal staking cards = record { staking = staking; cards = cards }
 
 -- the five tellings; a seat's stakes are those it laid before the deal, the stake of space s at place s - 1
 pub record Rules : Type 0 where
-  -- which spaces take a stake, given the seat's other stakes
+  -- which of spaces 1 to 5 take a stake, given the seat's other stakes; it is defined for other numbers too
   pub takes : List ℕ → ℕ → Taking
   -- whether the cards are a lawful deal for the staking seats
   pub deals : Deal → Dealing
@@ -77,7 +76,3 @@ pub record Facts (R : Rules) : Type 0 where
 -- in a game that ever tells a choice, space 2 is the raise's and takes no stake
 abbrev pub RaiseSpace : Rules → Type 0
 RaiseSpace R = (stakes others : List ℕ) → Small stakes → R .chooses stakes ≡ true → Small others → R .takes others 2 ≡ NoBets
-
--- no space but 1 to 5 takes a stake
-abbrev pub Outside : Rules → Type 0
-Outside R = (stakes : List ℕ) (space : ℕ) → (space ≡ 0) ⊎ (5 < space) → R .takes stakes space ≡ NoBets

@@ -1,6 +1,6 @@
 // The interface of games: each question is answered as the game tells, asks nothing of its caller and alters nothing.
 ghost use mathlib.Core.Path.{_≡_};
-ghost use Rattle.game.specs.Rules.{Rules, Facts, RaiseSpace, Outside, deal};
+ghost use Rattle.game.specs.Rules.{Rules, Facts, RaiseSpace, deal};
 use crate::choice::Choice;
 use crate::dealing::Dealing;
 use crate::taking::Taking;
@@ -14,9 +14,6 @@ pub trait Game {
 
     // where a choice is ever told, space 2 is the raise's
     law raise_space: { (g : Self) → RaiseSpace (rules g) };
-
-    // there are no spaces but 1 to 5
-    law outside: { (g : Self) → Outside (rules g) };
 
     // Whether the space takes a stake beside the seat's other stakes.
     fn takes(&self, stakes: &[u32; 5], space: u8) -> Taking

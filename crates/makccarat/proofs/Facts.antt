@@ -11,8 +11,7 @@ use Rattle.std.specs.declared.option.Option.{Option}
 use Rattle.std.specs.declared.option.Option.the-variants.{Some, None}
 use Rattle.std.proofs.shelf.Bits.{mul-le}
 use Rattle.std.proofs.shelf.Tests.{and-parts, leb-true, eqb-true}
-use Rattle.std.proofs.shelf.Ways.{tells}
-use Rattle.game.specs.Rules.{Facts, RaiseSpace, Outside, Small}
+use Rattle.game.specs.Rules.{Facts, RaiseSpace, Small}
 use Rattle.game.proofs.Stakes.{sum-by-places, no-stake-at}
 use Rattle.makccarat.specs.declared.posted.Makccarat.{Makccarat}
 use Rattle.makccarat.specs.declared.side.Side.{Side}
@@ -91,7 +90,3 @@ facts-of g = record {
 -- no choice is ever told
 pub raise-space-of : (g : Makccarat) → RaiseSpace (rules-of g)
 raise-space-of g stakes others s told t = let z : _≡_ {A = ℕ} 0 1 = cc in absurd (omega arith)
-
--- a space that is not there takes no stake
-pub outside-of : (g : Makccarat) → Outside (rules-of g)
-outside-of g stakes space out = grind (arith, tells)
