@@ -15,7 +15,7 @@ use Rattle.refusals.specs.declared.Refusal.{Refusal}
 use Rattle.grading.specs.Grading.{three-class}
 use Rattle.grading.specs.declared.three_classes.ThreeClass.{ThreeClass}
 use Rattle.grading.specs.declared.three_classes.ThreeClass.the-variants.{StraightFlush, Three, Straight, Flush, Pair, OddCards}
-use Rattle.game.specs.Rules.{Facts, RaiseSpace, Small, added}
+use Rattle.game.specs.Rules.{Facts, RaiseSpace, added}
 use Rattle.game.specs.declared.choice.Choice.{Choice}
 use Rattle.game.specs.declared.choice.Choice.the-variants.{Open, Raised, Left}
 use Rattle.game.proofs.Stakes.{sum-by-places, no-stake-at}

@@ -1,6 +1,5 @@
 -- Fortune: when the bank opens, what the spaces bring, and the ceiling.
 use Prim.Native.Nat.{ℕ, _+_, _*_}
-use mathlib.Core.Path.{_≡_}
 use mathlib.Core.Bool.{Bool, false, cond, _||_}
 use mathlib.Core.List.{List, [], _∷_}
 use lib.Dec.{eqb, leb, ltb}
@@ -13,7 +12,7 @@ use Rattle.grading.specs.Grading.{three-class, three-compared}
 use Rattle.grading.specs.ThreeClasses.{three-below}
 use Rattle.grading.specs.declared.three_classes.ThreeClass.{ThreeClass}
 use Rattle.grading.specs.declared.three_classes.ThreeClass.the-variants.{StraightFlush, Three, Straight, Flush, Pair, OddCards}
-use Rattle.game.specs.Rules.{Rules, Deal}
+use Rattle.game.specs.Rules.{Rules}
 use Rattle.game.specs.declared.choice.Choice.{Choice}
 use Rattle.game.specs.declared.taking.Taking.{Taking}
 use Rattle.game.specs.declared.taking.Taking.the-variants.{Takes, NoBets}

@@ -1,6 +1,6 @@
 // What a hand of Fortune brings against the bank's, and the ceiling of a seat.
 ghost use mathlib.Core.Path.{_≡_};
-ghost use Prim.Native.Nat.{_*_, _<_, _≤_, _^_};
+ghost use Prim.Native.Nat.{_<_, _^_};
 ghost use Rattle.std.specs.shelf.Lists.{sum};
 ghost use Rattle.poker.specs.Posting.{largest};
 ghost use Rattle.poker.specs.Fortune.{pair-or-better, fortune-opens, fortune-outcome, bonus-odds, bonus, posted-odds, pair-plus-return, fortune-spaces, fortune-ceiling, rules-of};

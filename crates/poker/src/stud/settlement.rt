@@ -1,6 +1,6 @@
 // What a hand of Stud brings against the bank's, and the ceiling of a seat.
 ghost use mathlib.Core.Path.{_≡_};
-ghost use Prim.Native.Nat.{_<_, _≤_, _^_};
+ghost use Prim.Native.Nat.{_<_, _^_};
 ghost use Rattle.std.specs.shelf.Lists.{sum};
 ghost use Rattle.poker.specs.Laws.{Hands-decide};
 ghost use Rattle.poker.specs.Stud.{pair-or-better, stud-opens, stud-outcome, raise-odds, is-capped, raise-pays, stud-spaces, stud-ceiling, rules-of};
