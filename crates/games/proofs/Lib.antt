@@ -1,0 +1,2 @@
+mod Deals
+pub mod Facts

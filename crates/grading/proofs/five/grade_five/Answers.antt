@@ -1,0 +1,22 @@
+use mathlib.Core.Path.{_≡_, ap, _∙_}
+use Rattle.std.specs.declared.result.Result.the-variants.{Ok}
+use Rattle.std.proofs.shelf.Results.{err-from-errBy}
+use Rattle.refusals.specs.Refusals.{first-cause}
+use Rattle.grading.specs.Admission.{hand-causes}
+use Rattle.grading.specs.Grading.{five-graded}
+use Rattle.grading.specs.Five.{five-hand}
+use Rattle.grading.proofs.Admitted.{refused-too, given-too}
+use Rattle.grading.proofs.five.grade_five.Needs as need
+
+pub returns-in-Break-admit : need.returns-in-Break-admit
+unfolding five-graded
+returns-in-Break-admit c =
+    let cs = c .args .cards .now in
+    let p = err-from-errBy (c .from-residual .result) (c .from-residual .ensures .1) in
+    rw (p .1, p .2) (refused-too (first-cause (hand-causes 5 cs)) tt (five-hand cs) (c .in-Break-admit .field-0 .0) (c .in-Break-admit .ensures tt))
+
+pub returns : need.returns
+unfolding five-graded
+returns c =
+    let cs = c .args .cards .now in
+    ap Ok (c .of-five .ensures .hand) ∙ given-too (first-cause (hand-causes 5 cs)) tt (c .in-Continue-admit .field-0) (five-hand cs) (c .in-Continue-admit .ensures tt)

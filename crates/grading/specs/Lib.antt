@@ -1,0 +1,11 @@
+pub mod Admission
+pub mod Cards
+pub mod Five
+pub mod FiveClasses
+pub mod Grading
+pub mod Laws
+pub mod Order
+pub mod Ranks
+pub mod Steps
+pub mod Three
+pub mod ThreeClasses

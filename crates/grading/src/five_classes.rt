@@ -1,0 +1,44 @@
+// The classes of five cards, downward.
+ghost use mathlib.Core.Path.{_≡_};
+ghost use Rattle.grading.specs.FiveClasses.{five-word, five-below};
+
+#[derive(Clone, Copy, PartialEq, Eq, Debug)]
+pub enum FiveClass {
+    RoyalFlush,
+    StraightFlush,
+    Four,
+    FullHouse,
+    Flush,
+    Straight,
+    Three,
+    TwoPairs,
+    Pair,
+    OddCards,
+}
+
+impl FiveClass {
+    // The words for a class in print.
+    pub fn word(self) -> &'static str
+        ensures { λ r. ⌜ now r ≡ five-word self ⌝ }
+    {
+        match self {
+            FiveClass::RoyalFlush => "royal flush",
+            FiveClass::StraightFlush => "straight flush",
+            FiveClass::Four => "four of a kind",
+            FiveClass::FullHouse => "full house",
+            FiveClass::Flush => "flush",
+            FiveClass::Straight => "straight",
+            FiveClass::Three => "three of a kind",
+            FiveClass::TwoPairs => "two pairs",
+            FiveClass::Pair => "pair",
+            FiveClass::OddCards => "odd cards",
+        }
+    }
+
+    // How many classes are lower.
+    pub fn below(self) -> u8
+        ensures { λ r. ⌜ r ≡ five-below self ⌝ }
+    {
+        9 - self as u8
+    }
+}

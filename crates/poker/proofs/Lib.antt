@@ -1,0 +1,5 @@
+mod Cut
+mod Between
+mod Bounds
+pub mod FortuneFacts
+pub mod StudFacts

@@ -1,0 +1,10 @@
+pub mod Dealing
+pub mod Ranks
+pub mod Outcome
+pub mod Payment
+pub mod Posting
+pub mod Fortune
+pub mod FortuneOpening
+pub mod Stud
+pub mod StudOpening
+pub mod Laws
