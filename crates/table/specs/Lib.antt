@@ -1,0 +1,6 @@
+pub mod Holdings
+pub mod Causes
+pub mod Effects
+pub mod Entries
+pub mod Soundness
+pub mod Calls
