@@ -3,3 +3,4 @@ pub mod holdings; // What a table holds, as sums over its seats.
 mod buying; // Buy, Cash, Fill and Draw.
 mod betting; // Bet and Deal.
 mod choosing; // Raise and Leave.
+mod ending; // Settle and Void.
