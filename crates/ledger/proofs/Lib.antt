@@ -1,3 +1,4 @@
 mod Counts
 mod Places
 mod Totals
+pub mod Writing

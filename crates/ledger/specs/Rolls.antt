@@ -1,9 +1,10 @@
 -- What a roll keeps, what it has places for, and what keeping a record does to it.
 use Prim.Native.Nat.{ℕ, _-_}
+use mathlib.Core.Path.{_≡_}
 use mathlib.Core.Bool.{Bool, cond}
 use mathlib.Core.List.{List, [], _∷_, _++_}
 use lib.Dec.{eqb}
-use lib.ListN.{take, length, set}
+use lib.ListN.{take, drop, length, set}
 use denote.Ref.{now, name}
 use base.Fml.{GName}
 use Rattle.std.specs.declared.result.Result.{Result}
@@ -53,3 +54,10 @@ keep-answer r = cond (full r) (Err (refused NoPlaceFree 0)) (Ok tt)
 -- how many records of a list name this seat, where a record names the seat that is told first
 abbrev pub count-of : {R : Type 0} → (R → ℕ) → ℕ → List R → ℕ
 count-of seat-of seat rs = countBy (λ x. eqb (seat-of x) seat) rs
+
+-- a roll after these records were written behind those it kept: what lies past them is as before, on the same lent slice
+pub record Written {R : Type 0} (r r′ : Roll R) (xs : List R) : Type 0 where
+  pub kept-then : kept r′ ≡ kept r ++ xs
+  pub beyond : drop (length (kept r′)) (lent r′) ≡ drop (length (kept r′)) (lent r)
+  pub as-many : places r′ ≡ places r
+  pub same-slice : slice-of r′ ≡ slice-of r
