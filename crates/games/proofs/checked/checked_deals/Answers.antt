@@ -3,4 +3,4 @@ use Rattle.games.proofs.Deals.{checked}
 use Rattle.games.proofs.checked.checked_deals.Needs as need
 
 pub returns : need.returns
-returns c = record { stands = checked (c .checked-deals .ensures .stands); answers = c .checked-deals .ensures .answers }
+returns c = record { stands = checked (c .parted-ways .ensures .stands); answers = c .parted-ways .ensures .answers }
