@@ -9,6 +9,7 @@ use std::io::BufWriter;
 use std::io::Write;
 
 // How many hands are of each class, at the place that says how many classes are lower.
+#[derive(Drop)]
 struct Census {
     threes: [u32; 6],
     fives: [u32; 10],
@@ -21,10 +22,21 @@ impl Census {
         }
     }
 
+    fn threes_of(&self, class: ThreeClass) -> u32 {
+        self.threes
+            .get(class.below() as usize)
+            .copied()
+            .unwrap_or(0)
+    }
+
     fn note_five(&mut self, class: FiveClass) {
         if let Some(count) = self.fives.get_mut(class.below() as usize) {
             *count = count.wrapping_add(1);
         }
+    }
+
+    fn fives_of(&self, class: FiveClass) -> u32 {
+        self.fives.get(class.below() as usize).copied().unwrap_or(0)
     }
 }
 
@@ -78,7 +90,6 @@ fn main(rt: LibcRuntime) -> io::Result<()> {
     };
     count_threes(&mut census);
     count_fives(&mut census);
-    let Census { threes, fives } = census;
     let mut out = BufWriter::new(rt.stdout());
     for class in [
         ThreeClass::StraightFlush,
@@ -89,7 +100,7 @@ fn main(rt: LibcRuntime) -> io::Result<()> {
         ThreeClass::OddCards,
     ] {
         let word = class.word();
-        let count = threes.get(class.below() as usize).copied().unwrap_or(0);
+        let count = census.threes_of(class);
         writeln!(out, "three cards, {word}: {count}")?;
     }
     for class in [
@@ -105,7 +116,7 @@ fn main(rt: LibcRuntime) -> io::Result<()> {
         FiveClass::OddCards,
     ] {
         let word = class.word();
-        let count = fives.get(class.below() as usize).copied().unwrap_or(0);
+        let count = census.fives_of(class);
         writeln!(out, "five cards, {word}: {count}")?;
     }
     out.flush()
