@@ -4,7 +4,7 @@ ghost use mathlib.Core.Bool.{true};
 ghost use Prim.Native.Nat.{_≤_};
 ghost use lib.ListN.{length, getD};
 ghost use Rattle.grading.specs.Admission.{is-hand};
-ghost use Rattle.grading.specs.Five.{five-hand, five-order, five-ranked, suit-counts};
+ghost use Rattle.grading.specs.Five.{five-hand, five-order, five-ranked, suit-counts, deciding-suit};
 ghost use Rattle.grading.specs.FiveClasses.{five-below};
 ghost use Rattle.grading.specs.Grading.{five-graded, five-class, five-compared};
 ghost use Rattle.grading.specs.Laws.{Five-only, In-any-order, In-any-orders, Of-one-class, Higher-class-wins, swapped as answer-swapped};
@@ -168,18 +168,27 @@ fn ranks_of(cards: &[u8]) -> Ranked
     )
 }
 
+// The suit that decides where ranks are level: the highest in which the cards hold the first rank that they are compared by.
+fn deciding_suit(ranked: Ranked, cards: &[u8]) -> u8
+    requires { ⌜ getD (ranked .ranks) 0 0 ≤ 15 ⌝ }
+    ensures { λ r. ⌜ r ≡ deciding-suit ranked (now (cards .entry)) ⌝ }
+{
+    if suit_counts(ranked.class) {
+        highest_suit(cards, ranked.ranks[0])
+    } else {
+        0
+    }
+}
+
 // The graded hand of five different cards.
 fn of_five(cards: &[u8]) -> FiveHand
     requires { ⌜ is-hand 5 (now cards) ≡ true ⌝ }
     ensures hand { λ r. ⌜ r ≡ five-hand (now (cards .entry)) ⌝ }
     ensures only { λ r. ⌜ Five-only (now (cards .entry)) (r .class) ⌝ }
 {
-    let Ranked { class, ranks } = ranks_of(cards);
-    let suit = if suit_counts(class) {
-        highest_suit(cards, ranks[0])
-    } else {
-        0
-    };
+    let ranked = ranks_of(cards);
+    let suit = deciding_suit(ranked, cards);
+    let Ranked { class, ranks } = ranked;
     FiveHand { class, ranks, suit }
 }
 
