@@ -1,16 +1,15 @@
 -- One byte more of a text, as the loops over it go on.
-use mathlib.Core.Path.{_≡_, refl, sym, ap, _∙_}
-use mathlib.Core.Bool.{Bool, true, false, cond}
+use mathlib.Core.Path.{_≡_, sym, ap, _∙_}
+use mathlib.Core.Bool.{true, false, cond}
 use mathlib.Core.List.{List, [], _∷_, _++_}
 use Prim.Native.Nat.{ℕ, suc, _+_, _-_, _<_, _≤_}
 use native.Mathlib.Omega.{arith}
-use lib.Dec.{eqb}
 use lib.ListN.{length, getD, take, drop}
 use Rattle.std.specs.Holes.{between}
 use Rattle.std.proofs.shelf.Edits.{between-more}
-use Rattle.std.proofs.shelf.Lists.{append-assoc, append-nil, at-drop-more, at-drop-all, take-rest}
+use Rattle.std.proofs.shelf.Lists.{at-drop-more, at-drop-all}
 use Rattle.std.proofs.shelf.Tests.{eq-eqb, ne-eqb}
-use Rattle.grade.specs.Lines.{is-blank, word-read, read-on, cards-read, bar-at}
+use Rattle.grade.specs.Lines.{is-blank, word-read, read-on, bar-at}
 
 -- the byte at i is the first bar of what is left
 pub bar-here : (line : List ℕ) (i : ℕ) → i < length line → getD line i 0 ≡ 124 → bar-at (drop i line) ≡ 0

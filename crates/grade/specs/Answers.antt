@@ -1,14 +1,18 @@
 -- The answer for a line: the class of a hand, or the classes of two and which is higher, or why it is refused.
-use mathlib.Core.Bool.{Bool, cond, _||_}
+use mathlib.Core.Bool.{Bool, true, false, cond, _||_}
 use mathlib.Core.List.{List}
 use Prim.Native.Nat.{ℕ, _+_}
+use lib.Chars.{codes}
 use lib.Dec.{eqb, ltb}
 use lib.ListN.{length, take, drop}
 use Rattle.std.specs.declared.result.Result.{Result}
 use Rattle.std.specs.declared.result.Result.the-variants.{Ok, Err}
+use Rattle.refusals.specs.Refusals.{number-of}
+use Rattle.refusals.specs.declared.Cause.{Cause}
 use Rattle.refusals.specs.declared.Refusal.{Refusal}
 use Rattle.grading.specs.Grading.{three-class, three-compared, five-class, five-compared}
 use Rattle.grading.specs.declared.comparisons.Comparison.{Comparison}
+use Rattle.grading.specs.declared.comparisons.Comparison.the-variants.{Lower, Alike, Higher}
 use Rattle.grading.specs.declared.five_classes.FiveClass.{FiveClass}
 use Rattle.grading.specs.declared.three_classes.ThreeClass.{ThreeClass}
 use Rattle.grade.specs.Lines.{cards-read, bar-at}
@@ -20,21 +24,24 @@ abbrev pub or-refused : Result Answer Refusal → Answer
 or-refused (Ok answer) = answer
 or-refused (Err refusal) = Refused (refusal .cause)
 
+-- the answer for a hand of three cards
 abbrev pub of-three : Result ThreeClass Refusal → Result Answer Refusal
 of-three (Ok k) = Ok (ThreeCards k)
 of-three (Err refusal) = Err refusal
 
+-- the answer for a hand of five cards
 abbrev pub of-five : Result FiveClass Refusal → Result Answer Refusal
 of-five (Ok k) = Ok (FiveCards k)
 of-five (Err refusal) = Err refusal
 
--- two hands: refused as their comparison is, and else their classes and the comparison
+-- two hands of three cards: refused as their comparison is, and else their classes and the comparison
 abbrev pub of-threes : Result Comparison Refusal → Result ThreeClass Refusal → Result ThreeClass Refusal → Result Answer Refusal
 of-threes (Err refusal) j k = Err refusal
 of-threes (Ok comparison) (Err refusal) k = Err refusal
 of-threes (Ok comparison) (Ok j) (Err refusal) = Err refusal
 of-threes (Ok comparison) (Ok j) (Ok k) = Ok (ThreeAndThree j k comparison)
 
+-- two hands of five cards, alike
 abbrev pub of-fives : Result Comparison Refusal → Result FiveClass Refusal → Result FiveClass Refusal → Result Answer Refusal
 of-fives (Err refusal) j k = Err refusal
 of-fives (Ok comparison) (Err refusal) k = Err refusal
@@ -58,3 +65,18 @@ line-answer line =
     cond (ltb (bar-at line) (length line))
     (or-refused (two-hands (cards-read (take (bar-at line) line)) (cards-read (drop (bar-at line + 1) line))))
     (cond (eqb (length (cards-read line)) 0) Nothing (or-refused (one-hand (cards-read line))))
+
+-- the word for the outcome of a comparison
+abbrev pub outcome-word : Comparison → List ℕ
+outcome-word Lower = codes "second"
+outcome-word Alike = codes "tie"
+outcome-word Higher = codes "first"
+
+-- what a refusal says: for 12, and for any other number, which can only be 13
+abbrev pub meaning-if : Bool → List ℕ
+meaning-if true = codes "a word is no card, or a hand has one card twice"
+meaning-if false = codes "a hand has neither three nor five cards, or two hands differ in size"
+
+-- what a refusal by grading says to a reader
+abbrev pub meaning-words : Cause → List ℕ
+meaning-words cause = meaning-if (eqb (number-of cause) 12)

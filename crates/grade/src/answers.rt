@@ -2,7 +2,7 @@
 ghost use mathlib.Core.Path.{_≡_};
 ghost use Rattle.std.specs.Vec.{made};
 ghost use Rattle.grading.specs.Grading.{three-class, three-compared, five-class, five-compared};
-ghost use Rattle.grade.specs.Answers.{or-refused, of-threes, of-fives, one-hand, two-hands, line-answer};
+ghost use Rattle.grade.specs.Answers.{or-refused, of-threes, of-fives, one-hand, two-hands, line-answer, outcome-word, meaning-words};
 use crate::lines::bar_of;
 use crate::lines::read_cards;
 use grading::Comparison;
@@ -91,4 +91,26 @@ pub fn answer_line(heap: Global, line: &[u8]) -> Result<Answer, AllocError>
         return Ok(Answer::Nothing);
     }
     Ok(or_refused(answer_one(cards.as_slice())))
+}
+
+// Which of two hands is higher, in a word.
+pub fn outcome(comparison: Comparison) -> &'static str
+    ensures { λ r. ⌜ now r ≡ outcome-word comparison ⌝ }
+{
+    match comparison {
+        Comparison::Lower => "second",
+        Comparison::Alike => "tie",
+        Comparison::Higher => "first",
+    }
+}
+
+// What a refusal by grading says to a reader.
+pub fn meaning(cause: Cause) -> &'static str
+    ensures { λ r. ⌜ now r ≡ meaning-words cause ⌝ }
+{
+    if cause.number() == 12 {
+        "a word is no card, or a hand has one card twice"
+    } else {
+        "a hand has neither three nor five cards, or two hands differ in size"
+    }
 }

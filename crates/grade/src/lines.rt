@@ -1,9 +1,7 @@
 // A line of text: words between blanks, read as cards, and a bar between two hands.
 ghost use mathlib.Core.Path.{_≡_};
-ghost use mathlib.Core.Bool.{cond};
 ghost use mathlib.Core.List.{_++_};
 ghost use Rattle.std.specs.Of.Vec.{vec-items};
-ghost use Rattle.std.specs.Results.{isOk};
 ghost use Rattle.std.specs.Vec.{made};
 ghost use Rattle.grade.specs.Lines.{is-blank, word-read, cards-read, bar-at};
 use crate::words::card_of;

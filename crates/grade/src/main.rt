@@ -5,28 +5,13 @@ mod words; // Cards as people write them.
 
 use answers::Answer;
 use answers::answer_line;
-use grading::Comparison;
-use refusals::Cause;
+use answers::meaning;
+use answers::outcome;
 use std::io;
 use std::io::BufRead;
 use std::io::BufReader;
 use std::io::BufWriter;
 use std::io::Write;
-
-fn outcome(comparison: Comparison) -> &'static str {
-    match comparison {
-        Comparison::Lower => "second",
-        Comparison::Alike => "tie",
-        Comparison::Higher => "first",
-    }
-}
-
-fn meaning(cause: Cause) -> &'static str {
-    match cause {
-        Cause::NoCard => "a word is no card, or a hand has one card twice",
-        _ => "a hand has neither three nor five cards, or two hands differ in size",
-    }
-}
 
 fn print(out: &mut BufWriter<io::Stdout>, answer: Answer) -> io::Result<()> {
     match answer {

@@ -1,14 +1,14 @@
 -- What a list of cards holds does not depend on their order.
-use mathlib.Core.Path.{_≡_, sym, ap, fun-ext, _∙_}
+use mathlib.Core.Path.{_≡_, ap, fun-ext, _∙_}
 use mathlib.Core.Bool.{Bool, cond, not, _&&_, _||_}
 use mathlib.Core.List.{List}
 use Prim.Native.Nat.{ℕ, _+_, _*_}
 use lib.Dec.{eqb}
-use lib.ListN.{length, getD}
+use lib.ListN.{getD}
 use Rattle.std.specs.Slices.{Shuffled}
 use Rattle.std.specs.shelf.Lists.{countBy}
 use Rattle.std.proofs.shelf.Sorted.{sumBy-shuffled, length-shuffled}
-use Rattle.grading.specs.Cards.{is-card, suit-of, rank-of, each, copies-of, is-single-card, different-cards, all-of-suit, one-suit, tally, holds, highest-suit}
+use Rattle.grading.specs.Cards.{is-card, suit-of, rank-of, each, is-single-card, different-cards, all-of-suit, one-suit, tally, holds, highest-suit}
 use Rattle.grading.specs.Five.{five-ranked, five-ranked-by, suit-counts, deciding-suit, five-hand}
 use Rattle.grading.specs.Ranks.{held, sequence}
 use Rattle.grading.specs.Three.{three-hand, three-hand-by}

@@ -2,7 +2,7 @@
 ghost use mathlib.Core.Path.{_≡_};
 ghost use mathlib.Core.Bool.{true};
 ghost use Prim.Native.Nat.{_≤_};
-ghost use lib.ListN.{length, getD};
+ghost use lib.ListN.{getD};
 ghost use Rattle.grading.specs.Admission.{is-hand};
 ghost use Rattle.grading.specs.Five.{five-hand, five-order, five-ranked, suit-counts, deciding-suit};
 ghost use Rattle.grading.specs.FiveClasses.{five-below};

@@ -2,7 +2,6 @@
 ghost use mathlib.Core.Path.{_≡_};
 ghost use mathlib.Core.Bool.{true};
 ghost use Prim.Native.Nat.{_≤_};
-ghost use lib.ListN.{length};
 ghost use Rattle.grading.specs.Admission.{is-hand};
 ghost use Rattle.grading.specs.Grading.{three-graded, three-class, three-compared};
 ghost use Rattle.grading.specs.Laws.{Three-only, In-any-order, In-any-orders, Of-one-class, Higher-class-wins, swapped as answer-swapped};

@@ -2,7 +2,7 @@ use mathlib.Core.Path.{_≡_, sym, ap, _∙_}
 use lib.Dec.{eqb}
 use lib.ListN.{length}
 use Rattle.std.specs.Of.Vec.{vec-items, vec-len}
-use Rattle.grade.specs.Answers.{or-refused, one-hand, two-hands}
+use Rattle.grade.specs.Answers.{or-refused}
 use Rattle.grade.proofs.Answering.{answer-of-two, answer-of-none, answer-of-one}
 use Rattle.grade.proofs.answers.answer_line.Needs as need
 

@@ -1,4 +1,4 @@
-use mathlib.Core.Path.{_≡_, ap, _∙_}
+use mathlib.Core.Path.{ap, _∙_}
 use Rattle.grading.specs.Five.{five-hand, deciding-suit}
 use Rattle.grading.proofs.five.of_five.Needs as need
 
