@@ -1,13 +1,15 @@
--- At all ranks of five cards, from the highest: the code's class and ranks are the rule's, and the cards are of that class and of no other.
+-- Five ranks from the highest: the code's class and ranks are the rule's, and the cards are of that class and of no other. Tested at all ranks is
+-- only how often each is held; the rest goes by which ranks are alike.
 use mathlib.Core.Path.{_≡_, refl, sym, ap, subst, _∙_}
-use mathlib.Core.Bool.{Bool, true, false}
+use mathlib.Core.Bool.{Bool, true, false, cond, _&&_, _||_}
 use mathlib.Core.List.{List, [], _∷_}
 use Prim.Native.Nat.{ℕ, zero, suc, _+_, _-_, _<_, _≤_}
 use native.Mathlib.Omega.{arith}
 use lib.Dec.{T, eqb, eqb→eq, lit<}
 use Rattle.std.specs.declared.option.Option.{Option}
-use Rattle.grading.specs.Ranks.{Held, held, sequence}
-use Rattle.grading.specs.Steps.{five-sorted}
+use Rattle.std.specs.declared.option.Option.the-variants.{Some, None}
+use Rattle.grading.specs.Ranks.{Held, held, sequence, head-at}
+use Rattle.grading.specs.Steps.{five-at, five-paired, five-apart, five-sorted}
 use Rattle.grading.specs.Five.{five-is, five-class-by, five-ranked-at, five-ranked-by}
 use Rattle.grading.specs.FiveClasses.{five-below}
 use Rattle.grading.specs.declared.five.Ranked.{Ranked}
@@ -55,14 +57,9 @@ few OddCards = lit< tt
 pub class-from-below : (j k : FiveClass) → five-below j ≡ five-below k → j ≡ k
 class-from-below j k e = sym (back j) ∙ ap numbered e ∙ back k
 
-abbrev same : Ranked → Ranked → Bool
-same g h = both (eqb (five-below (g .class)) (five-below (h .class))) (same-list (g .ranks) (h .ranks))
-
-from-same : (g h : Ranked) → T (same g h) → g ≡ h
-from-same g h t =
-    let class : g .class ≡ h .class = class-from-below _ _ (eqb→eq _ _ (both-left _ _ t)) in
-    let ranks : g .ranks ≡ h .ranks = list-from-same _ _ (both-right _ _ t) in
-    λ i. record { class = class i; ranks = ranks i }
+-- the ranks held once, twice, three times and four times
+abbrev holding : List ℕ → List ℕ → List ℕ → List ℕ → Held
+holding o w t f = record { ones = o; twos = w; threes = t; fours = f }
 
 -- cards of the class j are of the class k
 abbrev within : Option ℕ → Held → Bool → FiveClass → FiveClass → Bool
@@ -76,45 +73,61 @@ within-from : (head : Option ℕ) (h : Held) (level : Bool) (k j : FiveClass) �
 within-from head h level k j t =
     subst (λ x. T (within head h level k x)) (back j) (below-at 10 (λ n. within head h level k (numbered n)) t (five-below j) (few j))
 
-abbrev agrees-at : Bool → ℕ → ℕ → ℕ → ℕ → ℕ → Option ℕ → Held → FiveClass → Bool
-agrees-at level a b c d e head h k = both (same (five-sorted a b c d e level) (five-ranked-at k head h)) (both (five-is k head h level) (none-other head h level k))
+-- ---- the ranks that are held so often, told by which of five ranks, from the highest, are alike
 
-abbrev agrees-by : Bool → ℕ → ℕ → ℕ → ℕ → ℕ → Option ℕ → Held → Bool
-agrees-by level a b c d e head h = agrees-at level a b c d e head h (five-class-by head h level)
+abbrev held-paired : ℕ → ℕ → ℕ → ℕ → ℕ → Held
+held-paired a b c d e =
+    cond (eqb a b && eqb c d) (holding (e ∷ []) (a ∷ c ∷ []) [] [])
+    (cond (eqb a b && eqb d e) (holding (c ∷ []) (a ∷ d ∷ []) [] [])
+    (cond (eqb b c && eqb d e) (holding (a ∷ []) (b ∷ d ∷ []) [] [])
+    (cond (eqb a b) (holding (c ∷ d ∷ e ∷ []) (a ∷ []) [] [])
+    (cond (eqb b c) (holding (a ∷ d ∷ e ∷ []) (b ∷ []) [] [])
+    (cond (eqb c d) (holding (a ∷ b ∷ e ∷ []) (c ∷ []) [] [])
+    (holding (a ∷ b ∷ c ∷ []) (d ∷ []) [] []))))))
 
-abbrev agrees-of : Bool → ℕ → ℕ → ℕ → ℕ → ℕ → Held → Bool
-agrees-of level a b c d e h = agrees-by level a b c d e (sequence 5 (h .ones)) h
+abbrev held-sorted : ℕ → ℕ → ℕ → ℕ → ℕ → Held
+held-sorted a b c d e =
+    cond (eqb a d || eqb b e) (cond (eqb a e) (holding [] [] [] (c ∷ [])) (cond (eqb a d) (holding (e ∷ []) [] [] (c ∷ [])) (holding (a ∷ []) [] [] (c ∷ []))))
+    (cond ((eqb a c && eqb d e) || (eqb a b && eqb c e)) (cond (eqb a c) (holding [] (d ∷ []) (c ∷ []) []) (holding [] (a ∷ []) (c ∷ []) []))
+    (cond (eqb a c || (eqb b d || eqb c e)) (cond (eqb a c) (holding (d ∷ e ∷ []) [] (c ∷ []) []) (cond (eqb b d) (holding (a ∷ e ∷ []) [] (c ∷ []) []) (holding (a ∷ b ∷ []) [] (c ∷ []) [])))
+    (cond (eqb a b || (eqb b c || (eqb c d || eqb d e))) (held-paired a b c d e)
+    (holding (a ∷ b ∷ c ∷ d ∷ e ∷ []) [] [] []))))
 
-abbrev agrees : Bool → ℕ → ℕ → ℕ → ℕ → ℕ → Bool
-agrees level a b c d e = agrees-of level a b c d e (held (among (a ∷ b ∷ c ∷ d ∷ e ∷ [])))
+abbrev same : Held → Held → Bool
+same g h = both (same-list (g .ones) (h .ones)) (both (same-list (g .twos) (h .twos)) (both (same-list (g .threes) (h .threes)) (same-list (g .fours) (h .fours))))
 
-abbrev at-e : Bool → ℕ → ℕ → ℕ → ℕ → ℕ → Bool
-at-e level a b c d e = agrees level (a + 2) (b + 2) (c + 2) (d + 2) (e + 2)
+from-same : (g h : Held) → T (same g h) → g ≡ h
+from-same g h t =
+    let more = both-right (same-list (g .ones) (h .ones)) _ t in
+    let most = both-right (same-list (g .twos) (h .twos)) _ more in
+    let ones : g .ones ≡ h .ones = list-from-same _ _ (both-left (same-list (g .ones) (h .ones)) _ t) in
+    let twos : g .twos ≡ h .twos = list-from-same _ _ (both-left (same-list (g .twos) (h .twos)) _ more) in
+    let threes : g .threes ≡ h .threes = list-from-same _ _ (both-left (same-list (g .threes) (h .threes)) _ most) in
+    let fours : g .fours ≡ h .fours = list-from-same _ _ (both-right (same-list (g .threes) (h .threes)) _ most) in
+    λ i. record { ones = ones i; twos = twos i; threes = threes i; fours = fours i }
 
-abbrev at-d : Bool → ℕ → ℕ → ℕ → ℕ → Bool
-at-d level a b c d = below (suc d) (at-e level a b c d)
+abbrev agrees : ℕ → ℕ → ℕ → ℕ → ℕ → Bool
+agrees a b c d e = same (held-sorted a b c d e) (held (among (a ∷ b ∷ c ∷ d ∷ e ∷ [])))
 
-abbrev at-c : Bool → ℕ → ℕ → ℕ → Bool
-at-c level a b c = below (suc c) (at-d level a b c)
+abbrev at-e : ℕ → ℕ → ℕ → ℕ → ℕ → Bool
+at-e a b c d e = agrees (a + 2) (b + 2) (c + 2) (d + 2) (e + 2)
 
-abbrev at-b : Bool → ℕ → ℕ → Bool
-at-b level a b = below (suc b) (at-c level a b)
+abbrev at-d : ℕ → ℕ → ℕ → ℕ → Bool
+at-d a b c d = below (suc d) (at-e a b c d)
 
-abbrev at-a : Bool → ℕ → Bool
-at-a level a = below (suc a) (at-b level a)
+abbrev at-c : ℕ → ℕ → ℕ → Bool
+at-c a b c = below (suc c) (at-d a b c)
 
--- the test, at the 6,188 choices of five ranks from the highest; cards of one suit apart, since the steps of a declaration are limited
-suited : T (below 13 (at-a true))
+abbrev at-b : ℕ → ℕ → Bool
+at-b a b = below (suc b) (at-c a b)
+
+abbrev at-a : ℕ → Bool
+at-a a = below (suc a) (at-b a)
+
+-- the test, at the 6,188 choices of five ranks from the highest
+every : T (below 13 at-a)
 unfolding held
-suited = tt
-
-mixed : T (below 13 (at-a false))
-unfolding held
-mixed = tt
-
-every : (level : Bool) → T (below 13 (at-a level))
-every true = suited
-every false = mixed
+every = tt
 
 -- ranks from the highest
 pub record Falling (a b c d e : ℕ) : Type 0 where
@@ -125,39 +138,144 @@ pub record Falling (a b c d e : ℕ) : Type 0 where
   pub e-falls : e ≤ d
   pub lowest : 2 ≤ e
 
-at-ranks : (level : Bool) (a b c d e : ℕ) → Falling a b c d e → T (agrees level a b c d e)
-at-ranks level a b c d e f =
+held-is-sorted : (a b c d e : ℕ) → Falling a b c d e → held-sorted a b c d e ≡ held (among (a ∷ b ∷ c ∷ d ∷ e ∷ []))
+held-is-sorted a b c d e f =
     let back-up : (n : ℕ) → 2 ≤ n → n - 2 + 2 ≡ n = λ n h. omega arith in
-    let t-a : T (at-a level (a - 2)) = below-at 13 (at-a level) (every level) (a - 2) (omega arith) in
-    let t-b : T (at-b level (a - 2) (b - 2)) = below-at (suc (a - 2)) (at-b level (a - 2)) t-a (b - 2) (omega arith) in
-    let t-c : T (at-c level (a - 2) (b - 2) (c - 2)) = below-at (suc (b - 2)) (at-c level (a - 2) (b - 2)) t-b (c - 2) (omega arith) in
-    let t-d : T (at-d level (a - 2) (b - 2) (c - 2) (d - 2)) = below-at (suc (c - 2)) (at-d level (a - 2) (b - 2) (c - 2)) t-c (d - 2) (omega arith) in
-    let t-e : T (at-e level (a - 2) (b - 2) (c - 2) (d - 2) (e - 2)) = below-at (suc (d - 2)) (at-e level (a - 2) (b - 2) (c - 2) (d - 2)) t-d (e - 2) (omega arith) in
-    let s-a = subst (λ x. T (agrees level x (b - 2 + 2) (c - 2 + 2) (d - 2 + 2) (e - 2 + 2))) (back-up a (omega arith)) t-e in
-    let s-b = subst (λ x. T (agrees level a x (c - 2 + 2) (d - 2 + 2) (e - 2 + 2))) (back-up b (omega arith)) s-a in
-    let s-c = subst (λ x. T (agrees level a b x (d - 2 + 2) (e - 2 + 2))) (back-up c (omega arith)) s-b in
-    let s-d = subst (λ x. T (agrees level a b c x (e - 2 + 2))) (back-up d (omega arith)) s-c in
-    subst (λ x. T (agrees level a b c d x)) (back-up e (omega arith)) s-d
+    let t-a : T (at-a (a - 2)) = below-at 13 at-a every (a - 2) (omega arith) in
+    let t-b : T (at-b (a - 2) (b - 2)) = below-at (suc (a - 2)) (at-b (a - 2)) t-a (b - 2) (omega arith) in
+    let t-c : T (at-c (a - 2) (b - 2) (c - 2)) = below-at (suc (b - 2)) (at-c (a - 2) (b - 2)) t-b (c - 2) (omega arith) in
+    let t-d : T (at-d (a - 2) (b - 2) (c - 2) (d - 2)) = below-at (suc (c - 2)) (at-d (a - 2) (b - 2) (c - 2)) t-c (d - 2) (omega arith) in
+    let t-e : T (at-e (a - 2) (b - 2) (c - 2) (d - 2) (e - 2)) = below-at (suc (d - 2)) (at-e (a - 2) (b - 2) (c - 2) (d - 2)) t-d (e - 2) (omega arith) in
+    let s-a = subst (λ x. T (agrees x (b - 2 + 2) (c - 2 + 2) (d - 2 + 2) (e - 2 + 2))) (back-up a (omega arith)) t-e in
+    let s-b = subst (λ x. T (agrees a x (c - 2 + 2) (d - 2 + 2) (e - 2 + 2))) (back-up b (omega arith)) s-a in
+    let s-c = subst (λ x. T (agrees a b x (d - 2 + 2) (e - 2 + 2))) (back-up c (omega arith)) s-b in
+    let s-d = subst (λ x. T (agrees a b c x (e - 2 + 2))) (back-up d (omega arith)) s-c in
+    from-same _ _ (subst (λ x. T (agrees a b c d x)) (back-up e (omega arith)) s-d)
+
+-- ---- the class and the ranks of such a hand
+
+-- x is the rule's class and ranks of cards that hold these ranks, and they are of no other class
+record Ruled (level : Bool) (head : Option ℕ) (h : Held) (x : Ranked) : Type 0 where
+  ranked : x ≡ five-ranked-by head h level
+  is : five-is (five-class-by head h level) head h level ≡ true
+  no-other : (j : FiveClass) → five-is j head h level ≡ true → j ≡ five-class-by head h level
+
+abbrev tested : Bool → Option ℕ → Held → FiveClass → Bool
+tested level head h k = both (five-is k head h level) (none-other head h level k)
+
+-- where the class computes to k
+ruled : (level : Bool) (head : Option ℕ) (h : Held) (x : Ranked) (k : FiveClass) → five-class-by head h level ≡ k → x ≡ five-ranked-at k head h → T (tested level head h k) → Ruled level head h x
+ruled level head h x k c r t =
+    let is : five-is k head h level ≡ true = true-from-T _ (both-left (five-is k head h level) (none-other head h level k) t) in
+    record {
+      ranked = r ∙ ap (λ y. five-ranked-at y head h) (sym c);
+      is = subst (λ y. five-is y head h level ≡ true) (sym c) is;
+      no-other = λ j e.
+          class-from-below j k
+          (eqb→eq (five-below j) (five-below k) (implied _ _ (within-from head h level k j (both-right (five-is k head h level) (none-other head h level k) t)) e))
+          ∙ sym c;
+    }
+
+module _ (level : Bool) where
+  abbrev Right : Held → Ranked → Type 0
+  Right h x = Ruled level (sequence 5 (h .ones)) h x
+
+  by-cond : (t : Bool) (g h : Held) (x y : Ranked) → Right g x → Right h y → Right (cond t g h) (cond t x y)
+  by-cond true g h x y p q = p
+  by-cond false g h x y p q = q
+
+  by-held : (t : Bool) (g h : Held) (x : Ranked) → Right g x → Right h x → Right (cond t g h) x
+  by-held true g h x p q = p
+  by-held false g h x p q = q
+
+  module _ (a b c d e : ℕ) where
+    paired-right : Right (held-paired a b c d e) (five-paired a b c d e)
+    paired-right =
+        by-cond (eqb a b && eqb c d) _ _ _ _ (ruled level None _ _ TwoPairs refl refl tt)
+        (by-cond (eqb a b && eqb d e) _ _ _ _ (ruled level None _ _ TwoPairs refl refl tt)
+        (by-cond (eqb b c && eqb d e) _ _ _ _ (ruled level None _ _ TwoPairs refl refl tt)
+        (by-cond (eqb a b) _ _ _ _ (ruled level None _ _ Pair refl refl tt)
+        (by-cond (eqb b c) _ _ _ _ (ruled level None _ _ Pair refl refl tt)
+        (by-cond (eqb c d) _ _ _ _ (ruled level None _ _ Pair refl refl tt)
+        (ruled level None _ _ Pair refl refl tt))))))
+
+    four-right : Right (cond (eqb a e) (holding [] [] [] (c ∷ [])) (cond (eqb a d) (holding (e ∷ []) [] [] (c ∷ [])) (holding (a ∷ []) [] [] (c ∷ [])))) (five-at Four c 0 0 0 0)
+    four-right =
+        by-held (eqb a e) _ _ _ (ruled level None _ _ Four refl refl tt)
+        (by-held (eqb a d) _ _ _ (ruled level None _ _ Four refl refl tt) (ruled level None _ _ Four refl refl tt))
+
+    full-right : Right (cond (eqb a c) (holding [] (d ∷ []) (c ∷ []) []) (holding [] (a ∷ []) (c ∷ []) [])) (five-at FullHouse c 0 0 0 0)
+    full-right = by-held (eqb a c) _ _ _ (ruled level None _ _ FullHouse refl refl tt) (ruled level None _ _ FullHouse refl refl tt)
+
+    three-right : Right (cond (eqb a c) (holding (d ∷ e ∷ []) [] (c ∷ []) []) (cond (eqb b d) (holding (a ∷ e ∷ []) [] (c ∷ []) []) (holding (a ∷ b ∷ []) [] (c ∷ []) []))) (five-at Three c 0 0 0 0)
+    three-right =
+        by-held (eqb a c) _ _ _ (ruled level None _ _ Three refl refl tt)
+        (by-held (eqb b d) _ _ _ (ruled level None _ _ Three refl refl tt) (ruled level None _ _ Three refl refl tt))
+
+-- ---- five different ranks
+
+abbrev same-ranked : Ranked → Ranked → Bool
+same-ranked g h = both (eqb (five-below (g .class)) (five-below (h .class))) (same-list (g .ranks) (h .ranks))
+
+ranked-from-same : (g h : Ranked) → T (same-ranked g h) → g ≡ h
+ranked-from-same g h t =
+    let class : g .class ≡ h .class = class-from-below _ _ (eqb→eq _ _ (both-left _ _ t)) in
+    let ranks : g .ranks ≡ h .ranks = list-from-same _ _ (both-right _ _ t) in
+    λ i. record { class = class i; ranks = ranks i }
+
+-- a head below 15, or none
+abbrev Small : Option ℕ → Type 0
+Small None = Unit {0}
+Small (Some n) = n < 15
+
+-- with a head below 15, by a test of all heads; a to e are only counted
+abbrev headed-at : Bool → ℕ → ℕ → ℕ → ℕ → ℕ → ℕ → FiveClass → Bool
+headed-at level a b c d e n k =
+    both (same-ranked (five-apart (Some n) a b c d e level) (five-ranked-at k (Some n) (holding (a ∷ b ∷ c ∷ d ∷ e ∷ []) [] [] [])))
+    (tested level (Some n) (holding (a ∷ b ∷ c ∷ d ∷ e ∷ []) [] [] []) k)
+
+abbrev headed : Bool → ℕ → ℕ → ℕ → ℕ → ℕ → ℕ → Bool
+headed level a b c d e n = headed-at level a b c d e n (five-class-by (Some n) (holding (a ∷ b ∷ c ∷ d ∷ e ∷ []) [] [] []) level)
+
+every-head : (level : Bool) (a b c d e : ℕ) → T (below 15 (headed level a b c d e))
+every-head true a b c d e = tt
+every-head false a b c d e = tt
+
+apart-ruled : (level : Bool) (a b c d e : ℕ) (head : Option ℕ) → Small head → Ruled level head (holding (a ∷ b ∷ c ∷ d ∷ e ∷ []) [] [] []) (five-apart head a b c d e level)
+apart-ruled true a b c d e None small = ruled true None _ _ Flush refl refl tt
+apart-ruled false a b c d e None small = ruled false None _ _ OddCards refl refl tt
+apart-ruled level a b c d e (Some n) small =
+    let h = holding (a ∷ b ∷ c ∷ d ∷ e ∷ []) [] [] [] in
+    let k = five-class-by (Some n) h level in
+    let t = below-at 15 (headed level a b c d e) (every-head level a b c d e) n small in
+    let same : T (same-ranked (five-apart (Some n) a b c d e level) (five-ranked-at k (Some n) h)) = both-left _ (tested level (Some n) h k) t in
+    ruled level (Some n) h (five-apart (Some n) a b c d e level) k refl (ranked-from-same _ _ same) (both-right (same-ranked (five-apart (Some n) a b c d e level) (five-ranked-at k (Some n) h)) _ t)
+
+small-head : (s t : Bool) (a : ℕ) → a < 15 → Small (cond s (Some a) (cond t (Some 5) None))
+small-head true t a h = h
+small-head false true a h = lit< tt
+small-head false false a h = tt
+
+apart-right : (level : Bool) (a b c d e : ℕ) → a < 15 → Right level (holding (a ∷ b ∷ c ∷ d ∷ e ∷ []) [] [] []) (five-apart (head-at 5 a b e) a b c d e level)
+apart-right level a b c d e h = apart-ruled level a b c d e (head-at 5 a b e) (small-head (eqb a (e + 4)) (eqb a 14 && eqb b 5) a h)
 
 -- cards that hold these ranks are of the class that the rule gives them, and of no other
 pub record Only (level : Bool) (h : Held) : Type 0 where
   pub is : five-is (five-class-by (sequence 5 (h .ones)) h level) (sequence 5 (h .ones)) h level ≡ true
   pub no-other : (j : FiveClass) → five-is j (sequence 5 (h .ones)) h level ≡ true → j ≡ five-class-by (sequence 5 (h .ones)) h level
 
--- the code's class and ranks are the rule's
-pub sorted-is-rule : (level : Bool) (a b c d e : ℕ) → Falling a b c d e → five-sorted a b c d e level ≡ five-ranked-by (sequence 5 ((held (among (a ∷ b ∷ c ∷ d ∷ e ∷ []))) .ones)) (held (among (a ∷ b ∷ c ∷ d ∷ e ∷ []))) level
-sorted-is-rule level a b c d e f = from-same _ _ (both-left _ _ (at-ranks level a b c d e f))
+-- the code's class and ranks are the rule's, and the cards are of no other class
+sorted-right : (level : Bool) (a b c d e : ℕ) → Falling a b c d e → Right level (held (among (a ∷ b ∷ c ∷ d ∷ e ∷ []))) (five-sorted a b c d e level)
+sorted-right level a b c d e f =
+    subst (λ h. Right level h (five-sorted a b c d e level)) (held-is-sorted a b c d e f)
+    (by-cond level (eqb a d || eqb b e) _ _ _ _ (four-right level a b c d e)
+    (by-cond level ((eqb a c && eqb d e) || (eqb a b && eqb c e)) _ _ _ _ (full-right level a b c d e)
+    (by-cond level (eqb a c || (eqb b d || eqb c e)) _ _ _ _ (three-right level a b c d e)
+    (by-cond level (eqb a b || (eqb b c || (eqb c d || eqb d e))) _ _ _ _ (paired-right level a b c d e)
+    (apart-right level a b c d e (omega (arith, f .highest)))))))
 
--- the cards are of the class that the rule gives them, and of no other
+pub sorted-is-rule : (level : Bool) (a b c d e : ℕ) → Falling a b c d e → five-sorted a b c d e level ≡ five-ranked-by (sequence 5 (held (among (a ∷ b ∷ c ∷ d ∷ e ∷ [])) .ones)) (held (among (a ∷ b ∷ c ∷ d ∷ e ∷ []))) level
+sorted-is-rule level a b c d e f = sorted-right level a b c d e f .ranked
+
 pub of-one-class : (level : Bool) (a b c d e : ℕ) → Falling a b c d e → Only level (held (among (a ∷ b ∷ c ∷ d ∷ e ∷ [])))
-of-one-class level a b c d e f =
-    let h = held (among (a ∷ b ∷ c ∷ d ∷ e ∷ [])) in
-    let head = sequence 5 (h .ones) in
-    let k = five-class-by head h level in
-    let t : T (both (five-is k head h level) (none-other head h level k)) = both-right _ _ (at-ranks level a b c d e f) in
-    record {
-      is = true-from-T _ (both-left (five-is k head h level) (none-other head h level k) t);
-      no-other = λ j e.
-          class-from-below j k
-          (eqb→eq (five-below j) (five-below k) (implied _ _ (within-from head h level k j (both-right (five-is k head h level) (none-other head h level k) t)) e));
-    }
+of-one-class level a b c d e f = let r = sorted-right level a b c d e f in record { is = r .is; no-other = r .no-other }

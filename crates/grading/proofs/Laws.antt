@@ -1,29 +1,24 @@
 -- Laws of grading, once for hands of n cards, and what they say at three cards and at five.
-use mathlib.Core.Path.{_≡_, refl, sym, ap, _∙_}
-use mathlib.Core.Bool.{Bool, true, false, not, _||_}
+use mathlib.Core.Path.{_≡_, refl, ap, _∙_}
+use mathlib.Core.Bool.{true, not, _||_}
 use mathlib.Core.List.{List, [], _∷_}
 use Prim.Native.Nat.{ℕ, _<_}
 use native.Mathlib.Omega.{arith}
 use lib.Dec.{eqb}
-use lib.ListN.{length}
 use Rattle.std.specs.Keys.{unsigned, rank}
 use Rattle.std.specs.Lexical.{lex, lexical}
 use Rattle.std.specs.Orderings.{thenBy}
 use Rattle.std.specs.Slices.{Shuffled}
-use Rattle.std.specs.declared.cmp.Ordering.{Ordering}
-use Rattle.std.specs.declared.cmp.Ordering.the-variants.{Less, Equal, Greater}
+use Rattle.std.specs.declared.cmp.Ordering.the-variants.{Equal, Greater}
 use Rattle.std.specs.declared.option.Option.{Option}
 use Rattle.std.specs.declared.option.Option.the-variants.{Some, None}
-use Rattle.std.specs.declared.result.Result.{Result}
-use Rattle.std.specs.declared.result.Result.the-variants.{Ok, Err}
+use Rattle.std.specs.declared.result.Result.the-variants.{Ok}
 use Rattle.std.proofs.shelf.Sorted.{length-shuffled}
 use Rattle.std.proofs.shelf.Ways.{tells}
 use Rattle.refusals.specs.Refusals.{first-cause}
 use Rattle.refusals.specs.declared.Cause.{Cause}
 use Rattle.refusals.specs.declared.Cause.the-variants.{NoCard, WrongCount}
-use Rattle.refusals.specs.declared.Refusal.{Refusal}
 use Rattle.grading.specs.Admission.{is-hand, hand-causes, hands-causes, unless}
-use Rattle.grading.specs.Cards.{different-cards}
 use Rattle.grading.specs.Five.{five-hand, five-order, five-parts}
 use Rattle.grading.specs.FiveClasses.{five-below}
 use Rattle.grading.specs.Grading.{three-class, three-compared, five-class, five-compared}
@@ -35,7 +30,7 @@ use Rattle.grading.specs.declared.comparisons.Comparison.{Comparison}
 use Rattle.grading.specs.declared.comparisons.Comparison.the-variants.{Higher}
 use Rattle.grading.specs.declared.five_classes.FiveClass.{FiveClass}
 use Rattle.grading.specs.declared.three_classes.ThreeClass.{ThreeClass}
-use Rattle.grading.proofs.Admitted.{admitted, answered, both-answered, causes-swapped}
+use Rattle.grading.proofs.Admitted.{admitted, answered, both-answered, both-admitted, causes-swapped}
 use Rattle.grading.proofs.Parts.{by-parts-turned}
 use Rattle.grading.proofs.Shuffles.{different-cards-shuffled, three-hand-shuffled, five-hand-shuffled}
 
@@ -53,6 +48,10 @@ pub three-compared-given : (cs ds : List ℕ) → is-hand 3 cs ≡ true → is-h
 unfolding three-compared
 three-compared-given cs ds h k = both-answered 3 cs ds (three-order (three-hand cs) (three-hand ds)) h k
 
+pub three-compared-of-hands : (cs ds : List ℕ) (a : Comparison) → three-compared cs ds ≡ Ok a → (is-hand 3 cs ≡ true) × (is-hand 3 ds ≡ true)
+unfolding three-compared
+three-compared-of-hands cs ds a e = both-admitted 3 cs ds (three-order (three-hand cs) (three-hand ds)) a e
+
 -- ---- five different cards, and only they, have a class
 
 pub five-class-given : (cs : List ℕ) → is-hand 5 cs ≡ true → five-class cs ≡ Ok (five-hand cs .class)
@@ -66,6 +65,10 @@ five-class-of-hand cs k e = admitted 5 cs (five-hand cs .class) k e
 pub five-compared-given : (cs ds : List ℕ) → is-hand 5 cs ≡ true → is-hand 5 ds ≡ true → five-compared cs ds ≡ Ok (five-order (five-hand cs) (five-hand ds))
 unfolding five-compared
 five-compared-given cs ds h k = both-answered 5 cs ds (five-order (five-hand cs) (five-hand ds)) h k
+
+pub five-compared-of-hands : (cs ds : List ℕ) (a : Comparison) → five-compared cs ds ≡ Ok a → (is-hand 5 cs ≡ true) × (is-hand 5 ds ≡ true)
+unfolding five-compared
+five-compared-of-hands cs ds a e = both-admitted 5 cs ds (five-order (five-hand cs) (five-hand ds)) a e
 
 -- ---- the order of the cards does not matter
 

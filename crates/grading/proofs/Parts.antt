@@ -2,7 +2,6 @@
 use mathlib.Core.Path.{_≡_, refl, sym, ap, _∙_}
 use mathlib.Core.List.{List}
 use Prim.Native.Nat.{ℕ}
-use native.Mathlib.Omega.{arith}
 use Rattle.std.specs.Keys.{unsigned}
 use Rattle.std.specs.Lexical.{lex, lexical, lex-flip, lex-trans, lex-alike}
 use Rattle.std.specs.Orderings.{reversed, thenBy}

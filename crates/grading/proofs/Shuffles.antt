@@ -1,14 +1,14 @@
 -- What a list of cards holds does not depend on their order.
-use mathlib.Core.Path.{_≡_, sym, ap, fun-ext, _∙_}
+use mathlib.Core.Path.{_≡_, ap, fun-ext, _∙_}
 use mathlib.Core.Bool.{Bool, cond, not, _&&_, _||_}
 use mathlib.Core.List.{List}
 use Prim.Native.Nat.{ℕ, _+_, _*_}
 use lib.Dec.{eqb}
-use lib.ListN.{length, getD}
+use lib.ListN.{getD}
 use Rattle.std.specs.Slices.{Shuffled}
 use Rattle.std.specs.shelf.Lists.{countBy}
 use Rattle.std.proofs.shelf.Sorted.{sumBy-shuffled, length-shuffled}
-use Rattle.grading.specs.Cards.{is-card, suit-of, rank-of, each, copies-of, is-single-card, different-cards, all-of-suit, one-suit, tally, holds, highest-suit}
+use Rattle.grading.specs.Cards.{is-card, suit-of, rank-of, each, is-single-card, different-cards, all-of-suit, one-suit, tally, holds, highest-suit}
 use Rattle.grading.specs.Five.{five-ranked, five-ranked-by, suit-counts, deciding-suit, five-hand}
 use Rattle.grading.specs.Ranks.{held, sequence}
 use Rattle.grading.specs.Three.{three-hand, three-hand-by}
@@ -28,7 +28,6 @@ module _ (cs ds : List ℕ) (sh : Shuffled cs ds) where
   different-cards-shuffled = ap (λ p. each p ds) single-shuffled ∙ each-shuffled (is-single-card cs)
 
   pub one-suit-shuffled : one-suit ds ≡ one-suit cs
-  unfolding one-suit
   one-suit-shuffled =
       let suits : (s : ℕ) → all-of-suit s ds ≡ all-of-suit s cs = λ s. each-shuffled (λ c. eqb (suit-of c) s) in
       λ i. suits 0 i || (suits 1 i || (suits 2 i || suits 3 i))
@@ -37,7 +36,6 @@ module _ (cs ds : List ℕ) (sh : Shuffled cs ds) where
   tally-shuffled = fun-ext (λ r. countBy-shuffled (λ c. eqb (rank-of c) r))
 
   highest-suit-shuffled : (r : ℕ) → highest-suit ds r ≡ highest-suit cs r
-  unfolding highest-suit
   highest-suit-shuffled r =
       let held-too : (s : ℕ) → holds ds r s ≡ holds cs r s = λ s. ap (λ n. not (eqb n 0)) (countBy-shuffled (λ d. eqb d (16 * r + s))) in
       λ i. cond (held-too 3 i) 3 (cond (held-too 2 i) 2 (cond (held-too 1 i) 1 0))

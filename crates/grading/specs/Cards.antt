@@ -39,7 +39,7 @@ abbrev pub all-of-suit : ℕ → List ℕ → Bool
 all-of-suit s cs = each (λ c. eqb (suit-of c) s) cs
 
 -- the cards are of one suit
-unfoldable pub one-suit : List ℕ → Bool
+abbrev pub one-suit : List ℕ → Bool
 one-suit cs = all-of-suit 0 cs || (all-of-suit 1 cs || (all-of-suit 2 cs || all-of-suit 3 cs))
 
 -- how many of the cards are of this rank
@@ -51,5 +51,5 @@ abbrev pub holds : List ℕ → ℕ → ℕ → Bool
 holds cs r s = not (eqb (copies-of (16 * r + s) cs) 0)
 
 -- the highest suit in which the cards hold a rank; 0 also where they do not hold it
-unfoldable pub highest-suit : List ℕ → ℕ → ℕ
+abbrev pub highest-suit : List ℕ → ℕ → ℕ
 highest-suit cs r = cond (holds cs r 3) 3 (cond (holds cs r 2) 2 (cond (holds cs r 1) 1 0))

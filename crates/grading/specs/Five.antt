@@ -78,9 +78,11 @@ suit-counts OddCards = true
 abbrev pub five-ranked-at : FiveClass → Option ℕ → Held → Ranked
 five-ranked-at k head h = record { class = k; ranks = padded 5 (five-weighed k head h) }
 
+-- the same, with the class that the rule gives
 abbrev pub five-ranked-by : Option ℕ → Held → Bool → Ranked
 five-ranked-by head h level = five-ranked-at (five-class-by head h level) head h
 
+-- the class and the ranks of five cards
 unfoldable pub five-ranked : List ℕ → Ranked
 five-ranked cs = five-ranked-by (sequence 5 (held (tally cs) .ones)) (held (tally cs)) (one-suit cs)
 
@@ -101,5 +103,6 @@ five-of k cs = five-is k (sequence 5 (held (tally cs) .ones)) (held (tally cs)) 
 abbrev pub five-parts : FiveHand → List (List ℕ)
 five-parts h = (five-below (h .class) ∷ []) ∷ h .ranks ∷ (h .suit ∷ []) ∷ []
 
+-- how the first of two graded hands compares with the second
 unfoldable pub five-order : FiveHand → FiveHand → Comparison
 five-order g h = by-parts (five-parts g) (five-parts h)

@@ -1,16 +1,11 @@
 -- How often a hand holds each rank, and ranks that are a sequence.
-use mathlib.Core.Bool.{Bool, cond, _&&_}
+use mathlib.Core.Bool.{cond, _&&_}
 use mathlib.Core.List.{List, [], _∷_}
 use Prim.Native.Nat.{ℕ, zero, suc, _+_, _-_}
-use lib.Dec.{eqb, leb}
+use lib.Dec.{eqb}
 use lib.ListN.{length, getD}
 use Rattle.std.specs.declared.option.Option.{Option}
 use Rattle.std.specs.declared.option.Option.the-variants.{Some, None}
-
--- those of the n ranks from 2 up that pass a test, from the highest
-abbrev pub picked : (ℕ → Bool) → ℕ → List ℕ
-picked p zero = []
-picked p (suc n) = let rest = picked p n in cond (p (n + 2)) ((n + 2) ∷ rest) rest
 
 -- the ranks that a hand holds once, twice, three times, and four times or more, each list from the highest
 pub record Held : Type 0 where

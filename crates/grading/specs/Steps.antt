@@ -1,6 +1,6 @@
 -- The class and the ranks that decide, by ranks from the highest, as the code finds them; that they are the rule's is proved.
 use mathlib.Core.Bool.{Bool, cond, _&&_, _||_}
-use mathlib.Core.List.{List, [], _∷_}
+use mathlib.Core.List.{[], _∷_}
 use Prim.Native.Nat.{ℕ}
 use lib.Dec.{eqb}
 use Rattle.std.specs.declared.option.Option.{Option}
@@ -13,6 +13,7 @@ use Rattle.grading.specs.declared.three.ThreeHand.{ThreeHand}
 use Rattle.grading.specs.declared.three_classes.ThreeClass.{ThreeClass}
 use Rattle.grading.specs.declared.three_classes.ThreeClass.the-variants as of-three
 
+-- a class with three ranks
 abbrev pub three-at : ThreeClass → ℕ → ℕ → ℕ → ThreeHand
 three-at k a b c = record { class = k; ranks = a ∷ b ∷ c ∷ [] }
 
@@ -21,6 +22,7 @@ abbrev pub three-apart : Option ℕ → ℕ → ℕ → ℕ → Bool → ThreeHa
 three-apart (Some head) a b c level = three-at (cond level of-three.StraightFlush of-three.Straight) head 0 0
 three-apart None a b c level = three-at (cond level of-three.Flush of-three.OddCards) a b c
 
+-- three ranks from the highest, of one suit or not
 abbrev pub three-sorted : ℕ → ℕ → ℕ → Bool → ThreeHand
 three-sorted a b c level =
     cond (eqb a c) (three-at of-three.Three a 0 0)
@@ -28,6 +30,7 @@ three-sorted a b c level =
     (cond (eqb b c) (three-at of-three.Pair b a 0)
     (three-apart (head-at 3 a b c) a b c level)))
 
+-- a class with five ranks
 abbrev pub five-at : FiveClass → ℕ → ℕ → ℕ → ℕ → ℕ → Ranked
 five-at k a b c d e = record { class = k; ranks = a ∷ b ∷ c ∷ d ∷ e ∷ [] }
 
@@ -48,6 +51,7 @@ five-apart (Some head) a b c d e level =
     five-at (cond level (cond (eqb head 14) of-five.RoyalFlush of-five.StraightFlush) of-five.Straight) head 0 0 0 0
 five-apart None a b c d e level = five-at (cond level of-five.Flush of-five.OddCards) a b c d e
 
+-- five ranks from the highest, of one suit or not
 abbrev pub five-sorted : ℕ → ℕ → ℕ → ℕ → ℕ → Bool → Ranked
 five-sorted a b c d e level =
     cond (eqb a d || eqb b e) (five-at of-five.Four c 0 0 0 0)

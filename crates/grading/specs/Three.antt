@@ -47,9 +47,11 @@ three-weighed OddCards head h = h .ones
 abbrev pub three-hand-at : ThreeClass → Option ℕ → Held → ThreeHand
 three-hand-at k head h = record { class = k; ranks = padded 3 (three-weighed k head h) }
 
+-- the same, with the class that the rule gives
 abbrev pub three-hand-by : Option ℕ → Held → Bool → ThreeHand
 three-hand-by head h level = three-hand-at (three-class-by head h level) head h
 
+-- the graded hand of three cards
 unfoldable pub three-hand : List ℕ → ThreeHand
 three-hand cs = three-hand-by (sequence 3 (held (tally cs) .ones)) (held (tally cs)) (one-suit cs)
 
@@ -61,5 +63,6 @@ three-of k cs = three-is k (sequence 3 (held (tally cs) .ones)) (held (tally cs)
 abbrev pub three-parts : ThreeHand → List (List ℕ)
 three-parts h = (three-below (h .class) ∷ []) ∷ h .ranks ∷ []
 
+-- how the first of two graded hands compares with the second
 unfoldable pub three-order : ThreeHand → ThreeHand → Comparison
 three-order g h = by-parts (three-parts g) (three-parts h)

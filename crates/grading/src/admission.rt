@@ -1,6 +1,5 @@
 // Which lists of bytes are hands of a size, and why the others are refused.
 ghost use mathlib.Core.Path.{_≡_};
-ghost use Prim.Native.Nat.{ℕ};
 ghost use Rattle.grading.specs.Admission.{hand-causes, hands-causes, unless};
 ghost use Rattle.refusals.specs.Refusals.{first-cause};
 use crate::cards::are_different_cards;

@@ -2,13 +2,14 @@
 ghost use mathlib.Core.Path.{_≡_};
 ghost use mathlib.Core.Bool.{true};
 ghost use Prim.Native.Nat.{_≤_};
-ghost use lib.ListN.{length, getD};
+ghost use lib.ListN.{getD};
 ghost use Rattle.grading.specs.Admission.{is-hand};
-ghost use Rattle.grading.specs.Five.{five-hand, five-order, five-ranked, suit-counts};
+ghost use Rattle.grading.specs.Five.{five-hand, five-order, five-ranked, suit-counts, deciding-suit};
 ghost use Rattle.grading.specs.FiveClasses.{five-below};
 ghost use Rattle.grading.specs.Grading.{five-graded, five-class, five-compared};
 ghost use Rattle.grading.specs.Laws.{Five-only, In-any-order, In-any-orders, Of-one-class, Higher-class-wins, swapped as answer-swapped};
-ghost use Rattle.grading.specs.Steps.{five-sorted, five-paired};
+ghost use Rattle.grading.specs.Order.{as-comparison};
+ghost use Rattle.grading.specs.Steps.{five-at, five-sorted, five-paired};
 use crate::admission::admit;
 use crate::admission::admit_both;
 use crate::cards::are_of_one_suit;
@@ -19,6 +20,7 @@ use crate::order::Order;
 use crate::ranks::head_of;
 use crate::ranks::put_in_order;
 use refusals::Refusal;
+use std::cmp::Ordering;
 
 // A graded hand: its class, the ranks that it is compared by within the class, 0 in places not in use, and the suit that decides
 // where these are level, 0 where none does.
@@ -34,6 +36,16 @@ pub struct FiveHand {
 struct Ranked {
     class: FiveClass,
     ranks: [u8; 5],
+}
+
+// A hand that is compared by one rank alone.
+fn by_one_rank(class: FiveClass, rank: u8) -> Ranked
+    ensures { λ r. ⌜ r ≡ five-at class rank 0 0 0 0 ⌝ }
+{
+    Ranked {
+        class,
+        ranks: [rank, 0, 0, 0, 0],
+    }
 }
 
 // Five ranks from the highest, of which some are alike, but no three.
@@ -91,22 +103,13 @@ fn by_ranks(a: u8, b: u8, c: u8, d: u8, e: u8, one_suit: bool) -> Ranked
     ensures rank { λ r. ⌜ getD (r .ranks) 0 0 ≤ 15 ⌝ }
 {
     if a == d || b == e {
-        return Ranked {
-            class: FiveClass::Four,
-            ranks: [c, 0, 0, 0, 0],
-        };
+        return by_one_rank(FiveClass::Four, c);
     }
     if (a == c && d == e) || (a == b && c == e) {
-        return Ranked {
-            class: FiveClass::FullHouse,
-            ranks: [c, 0, 0, 0, 0],
-        };
+        return by_one_rank(FiveClass::FullHouse, c);
     }
     if a == c || b == d || c == e {
-        return Ranked {
-            class: FiveClass::Three,
-            ranks: [c, 0, 0, 0, 0],
-        };
+        return by_one_rank(FiveClass::Three, c);
     }
     if a == b || b == c || c == d || d == e {
         return by_pairs(a, b, c, d, e);
@@ -120,10 +123,7 @@ fn by_ranks(a: u8, b: u8, c: u8, d: u8, e: u8, one_suit: bool) -> Ranked
             } else {
                 FiveClass::StraightFlush
             };
-            Ranked {
-                class,
-                ranks: [head, 0, 0, 0, 0],
-            }
+            by_one_rank(class, head)
         }
         None => {
             let class = if one_suit {
@@ -168,18 +168,27 @@ fn ranks_of(cards: &[u8]) -> Ranked
     )
 }
 
+// The suit that decides where ranks are level: the highest in which the cards hold the first rank that they are compared by.
+fn deciding_suit(ranked: Ranked, cards: &[u8]) -> u8
+    requires { ⌜ getD (ranked .ranks) 0 0 ≤ 15 ⌝ }
+    ensures { λ r. ⌜ r ≡ deciding-suit ranked (now (cards .entry)) ⌝ }
+{
+    if suit_counts(ranked.class) {
+        highest_suit(cards, ranked.ranks[0])
+    } else {
+        0
+    }
+}
+
 // The graded hand of five different cards.
 fn of_five(cards: &[u8]) -> FiveHand
     requires { ⌜ is-hand 5 (now cards) ≡ true ⌝ }
     ensures hand { λ r. ⌜ r ≡ five-hand (now (cards .entry)) ⌝ }
     ensures only { λ r. ⌜ Five-only (now (cards .entry)) (r .class) ⌝ }
 {
-    let Ranked { class, ranks } = ranks_of(cards);
-    let suit = if suit_counts(class) {
-        highest_suit(cards, ranks[0])
-    } else {
-        0
-    };
+    let ranked = ranks_of(cards);
+    let suit = deciding_suit(ranked, cards);
+    let Ranked { class, ranks } = ranked;
     FiveHand { class, ranks, suit }
 }
 
@@ -219,14 +228,22 @@ impl FiveHand {
     {
         self.class
     }
+
+    // Compares by class, then by ranks from the first, and then by the suit that decides.
+    fn compare_parts(&self, other: &FiveHand) -> Ordering
+        ensures { λ r. ⌜ as-comparison r ≡ five-order (now (self .entry)) (now (other .entry)) ⌝ }
+    {
+        let classes = self.class.below().cmp(&other.class.below());
+        classes
+            .then(self.ranks.cmp(&other.ranks))
+            .then(self.suit.cmp(&other.suit))
+    }
 }
 
 pub impl Order for FiveHand as FiveOrder {
     ghost order = { five-order };
 
     fn compare(&self, other: &FiveHand) -> Comparison {
-        let classes = self.class.below().cmp(&other.class.below());
-        let ranks = self.ranks.cmp(&other.ranks);
-        Comparison::of_numbers(classes.then(ranks).then(self.suit.cmp(&other.suit)))
+        Comparison::of_numbers(self.compare_parts(other))
     }
 }

@@ -39,6 +39,17 @@ impl FiveClass {
     pub fn below(self) -> u8
         ensures { λ r. ⌜ r ≡ five-below self ⌝ }
     {
-        9 - self as u8
+        match self {
+            FiveClass::RoyalFlush => 9,
+            FiveClass::StraightFlush => 8,
+            FiveClass::Four => 7,
+            FiveClass::FullHouse => 6,
+            FiveClass::Flush => 5,
+            FiveClass::Straight => 4,
+            FiveClass::Three => 3,
+            FiveClass::TwoPairs => 2,
+            FiveClass::Pair => 1,
+            FiveClass::OddCards => 0,
+        }
     }
 }

@@ -4,8 +4,8 @@ pub mod three_classes; // The classes of three cards.
 pub mod five_classes; // The classes of five cards.
 pub mod order; // What every order of hands promises.
 pub mod cards; // Which bytes are cards, and what a list of them holds.
-pub mod ranks; // Ranks in a row, and cards in order.
-pub mod admission; // Which lists of bytes are hands of a size, and why the others are refused.
+mod ranks; // Ranks in a row, and cards in order.
+mod admission; // Which lists of bytes are hands of a size, and why the others are refused.
 pub mod three; // Hands of three cards.
 pub mod three_grading; // Ways of grading three cards, known by class and order alone.
 pub mod five; // Hands of five cards.

@@ -1,6 +1,6 @@
 // Ranks in a row, and cards in order.
 ghost use mathlib.Core.Path.{_≡_};
-ghost use Prim.Native.Nat.{_+_, _<_, _≤_};
+ghost use Prim.Native.Nat.{_+_, _<_};
 ghost use Rattle.std.specs.Slices.{Shuffled};
 ghost use Rattle.std.specs.shelf.Sorted.{Rising};
 ghost use Rattle.grading.specs.Ranks.{head-at};

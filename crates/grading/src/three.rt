@@ -2,10 +2,10 @@
 ghost use mathlib.Core.Path.{_≡_};
 ghost use mathlib.Core.Bool.{true};
 ghost use Prim.Native.Nat.{_≤_};
-ghost use lib.ListN.{length};
 ghost use Rattle.grading.specs.Admission.{is-hand};
 ghost use Rattle.grading.specs.Grading.{three-graded, three-class, three-compared};
 ghost use Rattle.grading.specs.Laws.{Three-only, In-any-order, In-any-orders, Of-one-class, Higher-class-wins, swapped as answer-swapped};
+ghost use Rattle.grading.specs.Order.{as-comparison};
 ghost use Rattle.grading.specs.Steps.{three-sorted};
 ghost use Rattle.grading.specs.Three.{three-hand, three-order};
 ghost use Rattle.grading.specs.ThreeClasses.{three-below};
@@ -18,6 +18,7 @@ use crate::ranks::head_of;
 use crate::ranks::put_in_order;
 use crate::three_classes::ThreeClass;
 use refusals::Refusal;
+use std::cmp::Ordering;
 
 // A graded hand: its class, and the ranks that it is compared by within the class, 0 in places not in use.
 #[derive(Clone, Copy)]
@@ -127,13 +128,20 @@ impl ThreeHand {
     {
         self.class
     }
+
+    // Compares by class, and then by ranks from the first.
+    fn compare_parts(&self, other: &ThreeHand) -> Ordering
+        ensures { λ r. ⌜ as-comparison r ≡ three-order (now (self .entry)) (now (other .entry)) ⌝ }
+    {
+        let classes = self.class.below().cmp(&other.class.below());
+        classes.then(self.ranks.cmp(&other.ranks))
+    }
 }
 
 pub impl Order for ThreeHand as ThreeOrder {
     ghost order = { three-order };
 
     fn compare(&self, other: &ThreeHand) -> Comparison {
-        let classes = self.class.below().cmp(&other.class.below());
-        Comparison::of_numbers(classes.then(self.ranks.cmp(&other.ranks)))
+        Comparison::of_numbers(self.compare_parts(other))
     }
 }

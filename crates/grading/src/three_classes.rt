@@ -31,6 +31,13 @@ impl ThreeClass {
     pub fn below(self) -> u8
         ensures { λ r. ⌜ r ≡ three-below self ⌝ }
     {
-        5 - self as u8
+        match self {
+            ThreeClass::StraightFlush => 5,
+            ThreeClass::Three => 4,
+            ThreeClass::Straight => 3,
+            ThreeClass::Flush => 2,
+            ThreeClass::Pair => 1,
+            ThreeClass::OddCards => 0,
+        }
     }
 }

@@ -1,5 +1,5 @@
-use mathlib.Core.Path.{_≡_, sym, ap, subst, _∙_}
-use lib.ListN.{length, getD}
+use mathlib.Core.Path.{sym, ap, subst, _∙_}
+use lib.ListN.{getD}
 use Prim.Native.Nat.{ℕ, _/_}
 use mathlib.Core.List.{List}
 use Rattle.std.specs.Slices.{Shuffled}

@@ -6,7 +6,7 @@ use Rattle.grading.specs.Five.{five-order}
 use Rattle.grading.specs.FiveClasses.{five-below}
 use Rattle.grading.specs.Order.{as-comparison}
 use Rattle.grading.proofs.Parts.{three-steps}
-use Rattle.grading.proofs.five.FiveOrder.compare.Needs as need
+use Rattle.grading.proofs.five.FiveHand.compare_parts.Needs as need
 
 pub returns : need.returns
 unfolding five-order
@@ -15,7 +15,10 @@ returns c =
     let b = c .args .other .now in
     let classes : c .cmp-classes .result ≡ rank (five-below (a .class)) (five-below (b .class)) =
     unsigned .says _ _ _ (c .cmp-classes .ensures) ∙ (λ i. rank (c .below .ensures i) (c .below-2 .ensures i)) in
-    let ranks : c .cmp-ranks .result ≡ lex unsigned (a .ranks) (b .ranks) = lex-says unsigned (a .ranks) (b .ranks) (c .cmp-ranks .result) (c .cmp-ranks .ensures) in
-    let suits : c .cmp .result ≡ rank (a .suit) (b .suit) = unsigned .says _ _ _ (c .cmp .ensures) in
-    c .of-numbers .ensures
-    ∙ ap as-comparison (c .then-2 .ensures ∙ (λ i. thenBy ((c .then .ensures ∙ (λ j. thenBy (classes j) (ranks j))) i) (suits i)) ∙ three-steps (rank (five-below (a .class)) (five-below (b .class))) (lex unsigned (a .ranks) (b .ranks)) (rank (a .suit) (b .suit)))
+    let ranks : c .cmp .result ≡ lex unsigned (a .ranks) (b .ranks) = lex-says unsigned (a .ranks) (b .ranks) (c .cmp .result) (c .cmp .ensures) in
+    let suits : c .cmp-2 .result ≡ rank (a .suit) (b .suit) = unsigned .says _ _ _ (c .cmp-2 .ensures) in
+    let first = c .then .ensures ∙ (λ i. thenBy (classes i) (ranks i)) in
+    ap as-comparison
+    (c .then-2 .ensures
+    ∙ (λ i. thenBy (first i) (suits i))
+    ∙ three-steps (rank (five-below (a .class)) (five-below (b .class))) (lex unsigned (a .ranks) (b .ranks)) (rank (a .suit) (b .suit)))
