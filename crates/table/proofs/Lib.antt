@@ -5,3 +5,7 @@ pub mod Ended
 pub mod Served
 pub mod Settling
 pub mod Voiding
+pub mod Accepted
+pub mod Trace
+pub mod Opened
+pub mod Performed

@@ -5,3 +5,7 @@ pub mod Entries
 pub mod Soundness
 pub mod Steps
 pub mod Calls
+pub mod Tally
+pub mod Promise
+pub mod Opening
+pub mod Performing
