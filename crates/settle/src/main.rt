@@ -3,15 +3,19 @@ use commands::Command;
 use ledger::notes::Note;
 use ledger::notes::NoteDisplay;
 use sheet::place::Place;
-use sheet::reading::read;
 use sheet::reading::LONGEST;
+use sheet::reading::read;
 use std::io;
 use std::io::BufWriter;
 use std::io::Read;
 use std::io::Write;
 
 // Prints the command at the place and moves behind it, or prints why none could be read; false where there is no other to read.
-fn print_next(out: &mut BufWriter<io::Stdout>, sheet: &[u8], place: &mut Place) -> io::Result<bool> {
+fn print_next(
+    out: &mut BufWriter<io::Stdout>,
+    sheet: &[u8],
+    place: &mut Place,
+) -> io::Result<bool> {
     let at = place.at;
     match read(sheet, place) {
         Ok(Some(command)) => {

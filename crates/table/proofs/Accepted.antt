@@ -140,10 +140,9 @@ module _ (R : Rules) (facts : Facts R) where
 
   pub raise-shown : (b : Books) (s free : ℕ) → Sound R b → None-holds (causes R b (Raise s) free) → ChoiceShown b s × (R .raise (seat-at b (s - 1) .stakes) ≤ seat-at b (s - 1) .rack)
   raise-shown b s free sound p =
-      let due-now : due R (seat-at b (s - 1)) ≡ true = not-false _ (p .1 .1 .1 .0) in
-      (
+      let due-now : due R (seat-at b (s - 1)) ≡ true = not-false _ (p .1 .1 .1 .0) in (
         choice-shown b s sound (p .0) (p .1 .0) due-now,
-        ltb-false _ _ (⊎-elim (λ f. absurd (both-ways _ f due-now)) (λ h. h) (and-cases _ _ (p .1 .1 .0)))
+        ltb-false _ _ (⊎-elim (λ f. absurd (both-ways _ f due-now)) (λ h. h) (and-cases _ _ (p .1 .1 .0))),
       )
 
   pub leave-shown : (b : Books) (s free : ℕ) → Sound R b → None-holds (causes R b (Leave s) free) → ChoiceShown b s × (R .leaves (seat-at b (s - 1) .stakes) ≡ true)
@@ -162,7 +161,13 @@ module _ (R : Rules) (facts : Facts R) where
   sound-seat b k v s kept within covered stands = record {
     seven = length-set (b .seats) k v ∙ s .seven;
     seats = each-set (SeatSound R) (b .seats) k v nobody 7 (s .seven) kept (s .seats);
-    within = within; covered = covered; counted = s .counted; least = s .least; bounds = s .bounds; most = s .most; stands = stands;
+    within = within;
+    covered = covered;
+    counted = s .counted;
+    least = s .least;
+    bounds = s .bounds;
+    most = s .most;
+    stands = stands;
   }
 
   stands-same : (b : Books) (k : ℕ) (v : Seat) → Sound R b → k < 7 → v .choice ≡ seat-at b k .choice → (g : Stage) → StageSound R b g → StageSound R (with-seat b k v) g
@@ -219,12 +224,26 @@ module _ (R : Rules) (facts : Facts R) where
       (omega (arith, ceilings-set R b (i - 1) v (s .seven) lt, s .covered))
       (stands-same b (i - 1) v s lt refl (b .stage) (s .stands))
   sound-after b (Fill n) free s p = record {
-    seven = s .seven; seats = s .seats; within = omega (arith, ltb-false limit (total b + n) (p .1 .0)); covered = omega (arith, s .covered);
-    counted = s .counted; least = s .least; bounds = s .bounds; most = s .most; stands = stands-tray b (b .tray + n) (b .stage) (s .stands);
+    seven = s .seven;
+    seats = s .seats;
+    within = omega (arith, ltb-false limit (total b + n) (p .1 .0));
+    covered = omega (arith, s .covered);
+    counted = s .counted;
+    least = s .least;
+    bounds = s .bounds;
+    most = s .most;
+    stands = stands-tray b (b .tray + n) (b .stage) (s .stands);
   }
   sound-after b (Draw n) free s p = record {
-    seven = s .seven; seats = s .seats; within = omega (arith, s .within); covered = omega (arith, ltb-false (b .tray) (ceilings R (b .seats) + n) (p .1 .0));
-    counted = s .counted; least = s .least; bounds = s .bounds; most = s .most; stands = stands-tray b (b .tray - n) (b .stage) (s .stands);
+    seven = s .seven;
+    seats = s .seats;
+    within = omega (arith, s .within);
+    covered = omega (arith, ltb-false (b .tray) (ceilings R (b .seats) + n) (p .1 .0));
+    counted = s .counted;
+    least = s .least;
+    bounds = s .bounds;
+    most = s .most;
+    stands = stands-tray b (b .tray - n) (b .stage) (s .stands);
   }
   sound-after b (Bet i j n) free s p =
       let o = bet-shown b i j n free s p in
@@ -247,8 +266,14 @@ module _ (R : Rules) (facts : Facts R) where
       let r = round-of (staking b) cards in
       let back : deal-of r ≡ d = ap (deal (staking b)) (take-at cards (replicate (40 - length cards) 0) (length cards) refl) in
       record {
-        seven = s .seven; seats = s .seats; within = s .within; covered = s .covered; counted = omega (arith, leb-false most-rounds (b .rounds) (p .1 .1 .0));
-        least = s .least; bounds = s .bounds; most = s .most;
+        seven = s .seven;
+        seats = s .seats;
+        within = s .within;
+        covered = s .covered;
+        counted = omega (arith, leb-false most-rounds (b .rounds) (p .1 .1 .0));
+        least = s .least;
+        bounds = s .bounds;
+        most = s .most;
         stands = (subst (Fair R) (sym back) fair, omega (arith, length-append cards (replicate (40 - length cards) 0)));
       }
   sound-after b (Raise i) free s p =

@@ -151,7 +151,12 @@ module _ (R : Rules) where
 
     pub ended-none : (r : Round) (f : ℕ → Seat → Seat) (b : Books) → Sound R b → b .stage ≡ Dealt r → Ended r f b b 0
     ended-none r f b s e = record {
-      sound = s; stage = e; same-rounds = refl; same-minimum = refl; same-maximum = refl; same-total = refl;
+      sound = s;
+      stage = e;
+      same-rounds = refl;
+      same-minimum = refl;
+      same-maximum = refl;
+      same-total = refl;
       done = λ k h. absurd (omega arith);
       later = λ k h. refl;
     }

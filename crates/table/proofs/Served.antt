@@ -88,4 +88,4 @@ module _ (R : Rules) (facts : Facts R) (b : Books) (k : ℕ) (s : Sound R b) (lt
       let whole : unchosen (seat-at b′ k) ≡ cleared v (v .rack + laid v) = ap unchosen at-b′ ∙ ap (λ x. unchosen (with-rack x (x .rack + laid v))) (seat-lifted b k (s .seven) lt) in
       ap (λ x. with-seat b′ k x) whole
       ∙ ap (λ xs. record { tray = b .tray; seats = xs; stage = b .stage; rounds = b .rounds; minimum = b .minimum; maximum = b .maximum })
-        (set-set (m .seats) k (with-rack (seat-at m k) (seat-at m k .rack + laid v)) (cleared v (v .rack + laid v)) ∙ set-set (b .seats) k (lifted v) (cleared v (v .rack + laid v)))
+      (set-set (m .seats) k (with-rack (seat-at m k) (seat-at m k .rack + laid v)) (cleared v (v .rack + laid v)) ∙ set-set (b .seats) k (lifted v) (cleared v (v .rack + laid v)))

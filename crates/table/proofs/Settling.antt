@@ -134,13 +134,12 @@ module _ {G : Type 0} (rules : G → Rules) (facts : (g : G) → Facts (rules g)
       let R = rules g in
       let d = deal-of r in
       let enough : ltb n (stakers b) ≡ false = le-ltb n (stakers b) few in
-      let chosen : eqb (missing R b) 0 ≡ true = eq-eqb (missing R b) 0 none in
-      (
+      let chosen : eqb (missing R b) 0 ≡ true = eq-eqb (missing R b) 0 none in (
         record {
           answer = rw (dealt, chosen, enough) refl;
           books = ap (λ x. with-stage x Betting) (h .books) ∙ ap (λ j. with-stage (settle-to R d j b) Betting) is-7 ∙ settled-is R (facts g) b r s dealt (may-all R b s none) ∙ ap (settled-in R b) (sym dealt);
         },
-        subst (Written l l′) (ap (λ j. entries-of R b d (take j every)) is-7 ∙ ap (entries-in R b) (sym dealt)) (h .wrote)
+        subst (Written l l′) (ap (λ j. entries-of R b d (take j every)) is-7 ∙ ap (entries-in R b) (sym dealt)) (h .wrote),
       )
 
 -- a choice is missing: the refusal names the lowest seat

@@ -18,7 +18,7 @@ use Rattle.table.proofs.Keep.{void-all}
 
 module _ {G : Type 0} (rules : G → Rules) (facts : (g : G) → Facts (rules g)) (g : G) (r : Round) (b : Books) (s : Sound (rules g) b) (dealt : b .stage ≡ Dealt r) where
   -- the books stay sound from seat to seat
-  pub void-asks : (g′ : G) (k : ℕ) (b′ : Books) → k < 7 → g′ ≡ g → b′ ≡ void-to k b → record { seat : k < 7; sound : Sound (rules g′) b′; }
+  pub void-asks : (g′ : G) (k : ℕ) (b′ : Books) → k < 7 → g′ ≡ g → b′ ≡ void-to k b → record { seat : k < 7; sound : Sound (rules g′) b′ }
   void-asks g′ k b′ lt same h = record {
     seat = lt;
     sound = subst (λ x. Sound (rules x) b′) (sym same) (subst (Sound (rules g)) (sym h) (void-all (rules g) (facts g) b r s dealt k (omega arith) .sound));

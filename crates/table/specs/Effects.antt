@@ -36,7 +36,10 @@ abbrev pub settled : Rules → Books → game.Deal → Books
 settled R b d = record {
   tray = b .tray + sum (map (λ k. laid (seat-at b k)) every) - sum (map (λ k. return-to R d k (seat-at b k)) every);
   seats = map (λ k. cleared (seat-at b k) (seat-at b k .rack + return-to R d k (seat-at b k))) every;
-  stage = Betting; rounds = b .rounds; minimum = b .minimum; maximum = b .maximum;
+  stage = Betting;
+  rounds = b .rounds;
+  minimum = b .minimum;
+  maximum = b .maximum;
 }
 
 abbrev pub settled-in : Rules → Books → Stage → Books
@@ -48,7 +51,10 @@ abbrev pub voided : Books → Books
 voided b = record {
   tray = b .tray;
   seats = map (λ k. cleared (seat-at b k) (seat-at b k .rack + laid (seat-at b k))) every;
-  stage = Betting; rounds = b .rounds; minimum = b .minimum; maximum = b .maximum;
+  stage = Betting;
+  rounds = b .rounds;
+  minimum = b .minimum;
+  maximum = b .maximum;
 }
 
 -- the table after an accepted call

@@ -38,7 +38,8 @@ impl<G: Game> Table<G> {
             return;
         }
         let s = self.books.seats[k];
-        let returned = self.game.returns(k, &s.stakes, s.choice, &round.staking, round.cards());
+        let returned = self.game
+            .returns(k, &s.stakes, s.choice, &round.staking, round.cards());
         self.books.serve(k, returned, ledger);
     }
 

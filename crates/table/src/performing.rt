@@ -15,7 +15,11 @@ use refusals::Refusal;
 
 impl<G: Game> Table<G> {
     // Performs one command. Whatever history led to this table, with this command leads to what is left.
-    pub fn perform(&mut self, command: Command<'_>, ledger: &mut Roll<'_, Entry>) -> Result<(), Refusal>
+    pub fn perform(
+        &mut self,
+        command: Command<'_>,
+        ledger: &mut Roll<'_, Entry>,
+    ) -> Result<(), Refusal>
         requires { ⌜ Sound (rules (now self .game)) (now self .books) ⌝ }
         ensures performed { λ r. ⌜ Performed (rules (now (self .entry) .game)) (now (self .entry) .books) (now (ledger .entry)) (call-of (command .entry)) r (now (self .exit) .books) (now (ledger .exit)) ⌝ }
         ensures game { λ r. ⌜ now (self .exit) .game ≡ now (self .entry) .game ⌝ }
@@ -26,13 +30,23 @@ impl<G: Game> Table<G> {
             (_, Command::Cash { seat, amount }) => self.cash(seat, amount),
             (_, Command::Fill { amount }) => self.fill(amount),
             (_, Command::Draw { amount }) => self.draw(amount),
-            (Stage::Betting, Command::Bet { seat, space, amount }) => self.bet(seat, space, amount),
+            (
+                Stage::Betting,
+                Command::Bet {
+                    seat,
+                    space,
+                    amount,
+                },
+            ) => self.bet(seat, space, amount),
             (Stage::Betting, Command::Deal { cards }) => self.deal(cards),
             (Stage::Betting, Command::Raise { seat }) => Err(Refusal::new(Cause::WrongStage, seat)),
             (Stage::Betting, Command::Leave { seat }) => Err(Refusal::new(Cause::WrongStage, seat)),
             (Stage::Betting, Command::Settle) => Err(Refusal::new(Cause::WrongStage, 0)),
             (Stage::Betting, Command::Void) => Err(Refusal::new(Cause::WrongStage, 0)),
-            (Stage::Dealt(_), Command::Bet { seat, .. }) => Err(Refusal::new(Cause::WrongStage, seat)),
+            (Stage::Dealt(_), Command::Bet { seat, .. }) => Err(Refusal::new(
+                Cause::WrongStage,
+                seat,
+            )),
             (Stage::Dealt(_), Command::Deal { .. }) => Err(Refusal::new(Cause::WrongStage, 0)),
             (Stage::Dealt(_), Command::Raise { seat }) => self.raise(seat),
             (Stage::Dealt(_), Command::Leave { seat }) => self.leave(seat),

@@ -19,9 +19,10 @@ loop-i-again g c =
     let f = g .G·Game·met .facts (c .args .self .now .game) in
     let seats = c .args .seats .now in
     let lt : c .loop-i .i < length seats = omega (arith, c .told-seats) in
-    let m = sumBy-more (λ s. R .ceiling (s .stakes)) seats (c .loop-i .i) nobody lt in
-    (omega (arith, m, c .ceiling-sum .ensures, c .loop-i .inv .0),
-     omega (arith, f .ceilings _ (c .pre (c .loop-i .i) (c .loop-i-test .taken)), c .ceiling-sum .ensures, c .loop-i .inv .1))
+    let m = sumBy-more (λ s. R .ceiling (s .stakes)) seats (c .loop-i .i) nobody lt in (
+      omega (arith, m, c .ceiling-sum .ensures, c .loop-i .inv .0),
+      omega (arith, f .ceilings _ (c .pre (c .loop-i .i) (c .loop-i-test .taken)), c .ceiling-sum .ensures, c .loop-i .inv .1),
+    )
 
 pub returns : need.returns
 returns g c =

@@ -13,11 +13,10 @@ pub returns : need.returns
 returns g c =
     let fits : c .args .tray ≤ limit = c .if-tray-gt-LIMIT .left in
     let good : bad-bounds (c .args .minimum) (c .args .maximum) ≡ false = sym (c .if-are-bad-bounds .ensures tt) in
-    let facts = g .G·Game·met .facts (c .args .game) in
-    (
+    let facts = g .G·Game·met .facts (c .args .game) in (
       rw (le-ltb limit (c .args .tray) fits, good) refl,
       refl,
       refl,
       opened-sound _ facts (c .args .minimum) (c .args .maximum) (c .args .tray) fits good,
-      opened-reached _ facts (c .args .minimum) (c .args .maximum) (c .args .tray) fits good
+      opened-reached _ facts (c .args .minimum) (c .args .maximum) (c .args .tray) fits good,
     )

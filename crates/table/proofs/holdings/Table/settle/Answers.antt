@@ -30,12 +30,11 @@ settle-seat-requires g c κs =
 pub loop-k-again : need.loop-k-again
 loop-k-again g c =
     let R = g .G·Game .rules (c .args .self .now .game) in
-    let none : missing R (c .args .self .now .books) ≡ 0 = sym (c .missing-missing .ensures) ∙ c .if-missing-ne0 .left in
-    (
+    let none : missing R (c .args .self .now .books) ≡ 0 = sym (c .missing-missing .ensures) ∙ c .if-missing-ne0 .left in (
       c .settle-seat .ensures .game ∙ c .loop-k .inv .0,
       goes-on (g .G·Game .rules) (g .G·Game·met .facts) (c .args .self .now .game) (c .in-Dealt .round) (c .args .self .now .books) (c .args .ledger .now) (c .pre) (c .in-Dealt .is) none
-      (c .loop-k .self .game) (c .loop-k .k) (c .loop-k .self .books) (c .settle-seat .last .self .books) (c .loop-k .ledger) (c .settle-seat .last .ledger) (c .loop-k-test .taken) (c .loop-k .inv .0) (c .loop-k .inv .1)
-      (c .settle-seat .ensures .books) (c .settle-seat .ensures .ledger)
+          (c .loop-k .self .game) (c .loop-k .k) (c .loop-k .self .books) (c .settle-seat .last .self .books) (c .loop-k .ledger) (c .settle-seat .last .ledger) (c .loop-k-test .taken) (c .loop-k .inv .0) (c .loop-k .inv .1)
+          (c .settle-seat .ensures .books) (c .settle-seat .ensures .ledger),
     )
 
 pub returns : need.returns
@@ -44,5 +43,5 @@ returns g c =
     let none : missing R (c .args .self .now .books) ≡ 0 = sym (c .missing-missing .ensures) ∙ c .if-missing-ne0 .left in
     let enough : stakers (c .args .self .now .books) ≤ free (c .args .ledger .now) = omega (arith, c .if-free-stakers .left, c .stakers .ensures, c .free .ensures) in
     let e = ends (g .G·Game .rules) (g .G·Game·met .facts) (c .args .self .now .game) (c .in-Dealt .round) (c .args .self .now .books) (c .args .ledger .now) (c .pre) (c .in-Dealt .is) none
-            (c .loop-k .k) (c .loop-k .self .books) (c .loop-k .ledger) (free (c .args .ledger .now)) enough (omega arith) (c .loop-k .inv .1) in
+    (c .loop-k .k) (c .loop-k .self .books) (c .loop-k .ledger) (free (c .args .ledger .now)) enough (omega arith) (c .loop-k .inv .1) in
     record { did = e .0; game = c .loop-k .inv .0; ledger = e .1 }

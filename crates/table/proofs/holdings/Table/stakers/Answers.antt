@@ -27,10 +27,10 @@ loop-k-again g c =
     let f : ℕ → ℕ = λ k. one-if (stakes? (seat-at b k)) in
     let i = c .loop-k .inv in
     elim (c .if-stakes-at .came) [
-      then-stakes-at w ↦ let one : f k ≡ 1 = ap one-if (sym (w .if-stakes-at .ensures tt)) in
-        again f k (c .loop-k .count) (c .if-stakes-at .count) (c .loop-k-test .taken) (i .0) (omega (arith, w .count-is)) (omega arith) (i .1)
-    | else-stakes-at w ↦ let none : f k ≡ 0 = ap one-if (sym (w .if-stakes-at .ensures tt)) in
-        again f k (c .loop-k .count) (c .if-stakes-at .count) (c .loop-k-test .taken) (i .0) (omega (arith, w .count-is)) (omega arith) (i .1)
+      | then-stakes-at w ↦ let one : f k ≡ 1 = ap one-if (sym (w .if-stakes-at .ensures tt)) in
+          again f k (c .loop-k .count) (c .if-stakes-at .count) (c .loop-k-test .taken) (i .0) (omega (arith, w .count-is)) (omega arith) (i .1)
+      | else-stakes-at w ↦ let none : f k ≡ 0 = ap one-if (sym (w .if-stakes-at .ensures tt)) in
+          again f k (c .loop-k .count) (c .if-stakes-at .count) (c .loop-k-test .taken) (i .0) (omega (arith, w .count-is)) (omega arith) (i .1)
     ]
 
 pub returns : need.returns

@@ -13,7 +13,7 @@ pub loop-k-again : need.loop-k-again
 loop-k-again g c = (
   c .void-seat .ensures .game ∙ c .loop-k .inv .0,
   void-goes-on (g .G·Game .rules) (g .G·Game·met .facts) (c .args .self .now .game) (c .in-rest .field-0) (c .args .self .now .books) (c .pre) (c .in-rest .is)
-  (c .loop-k .k) (c .loop-k .self .books) (c .void-seat .last .self .books) (c .loop-k .inv .1) (c .void-seat .ensures .books)
+      (c .loop-k .k) (c .loop-k .self .books) (c .void-seat .last .self .books) (c .loop-k .inv .1) (c .void-seat .ensures .books),
 )
 
 pub returns : need.returns
