@@ -9,3 +9,4 @@ pub mod Accepted
 pub mod Trace
 pub mod Opened
 pub mod Performed
+pub mod Single
