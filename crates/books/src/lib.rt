@@ -1,4 +1,6 @@
 // The books of a table: its tray, seats and stage, and every movement of chips between spaces, racks and tray.
+#![tactic(auto)]
+
 pub mod seat; // One seat: its rack, its spaces and its choice.
 pub mod stage; // Whether the table is betting or dealt.
 pub mod table_books; // The books themselves.

@@ -1,4 +1,6 @@
 // Counts the classes of all hands of three and of five cards from one pack.
+#![tactic(auto)]
+
 ghost use Rattle.std.specs.Prelude.{◌<◌};
 
 use grading::{FiveClass, ThreeClass, five_class, three_class};

@@ -1,4 +1,6 @@
 // The command: one request to the table. A sheet is read into it, and the table decides it.
+#![tactic(auto)]
+
 ghost use Rattle.std.specs.Prelude.{◌≡◌};
 ghost use Rattle.commands.specs.Calls.{call_of, name_of, seat_named};
 

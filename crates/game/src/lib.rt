@@ -1,4 +1,5 @@
 // What makes a game, as the table knows it: what it tells, and what it promises.
+#![tactic(auto)]
 
 // A seat's choice after the deal.
 pub mod choice;

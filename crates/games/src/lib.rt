@@ -1,4 +1,5 @@
 // The four games, as the one type that programs hold.
+#![tactic(auto)]
 
 // The games.
 pub mod any_game;

@@ -1,4 +1,6 @@
 // Grades hands: a line of standard input is one hand of three or five cards, or two with a bar between them.
+#![tactic(auto)]
+
 mod answers; // The answer for a line.
 mod lines; // Words between blanks, and the bar.
 mod words; // Cards as people write them.

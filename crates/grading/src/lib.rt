@@ -1,4 +1,6 @@
 // The grading of hands: the class of three or five cards, and which of two hands is higher.
+#![tactic(auto)]
+
 pub mod comparisons; // The answer of a comparison of two hands.
 pub mod three_classes; // The classes of three cards.
 pub mod five_classes; // The classes of five cards.

@@ -1,4 +1,5 @@
 // The ledger: rolls of records over lent slices, the records that lie in them, and their sums.
+#![tactic(auto)]
 
 // A kind of record that names a seat.
 pub mod seated;

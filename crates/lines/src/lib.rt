@@ -1,4 +1,5 @@
 // The lines that are printed of entries, of notes and at the close.
+#![tactic(auto)]
 
 // A line of text as it is made.
 pub mod line;

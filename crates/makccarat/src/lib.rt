@@ -1,4 +1,5 @@
 // Makccarat, games 3 and 4: player and banker, who add cards by their totals, in a first and a second way.
+#![tactic(auto)]
 
 // A card's byte: whether it is one, its rank and its points.
 pub mod card;

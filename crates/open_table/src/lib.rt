@@ -1,4 +1,5 @@
 // The table that programs hold: at one of the four games, and sound by its type, so that its calls ask nothing.
+#![tactic(auto)]
 
 // An open table.
 pub mod open_table;

@@ -1,4 +1,5 @@
 // The two poker games, Fortune and Stud: each seat plays its own hand against the bank's.
+#![tactic(auto)]
 
 // Dealing hands to the staking seats and the bank.
 pub mod dealing;

@@ -1,4 +1,6 @@
 // Refusals: why a call is turned down, the seat it concerns, and the layer the cause belongs to.
+#![tactic(auto)]
+
 ghost use Rattle.std.specs.Prelude.{◌≡◌};
 ghost use Rattle.refusals.specs.Refusals.{number_of, layer_of, refused, word_of};
 

@@ -1,4 +1,6 @@
 // A whole history on one newly opened table, for any game: opening, and then a list of calls, each handed a ledger of its own size.
+#![tactic(auto)]
+
 ghost use Rattle.std.specs.Prelude.{◌≡◌, ℕ, min, length};
 ghost use Rattle.commands.specs.Calls.{call_of};
 ghost use Rattle.table.specs.Soundness.{Sound};

@@ -1,4 +1,6 @@
 // Reads a sheet of commands from standard input and says what it read.
+#![tactic(auto)]
+
 use commands::Command;
 use ledger::notes::Note;
 use sheet::place::Place;

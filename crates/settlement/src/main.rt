@@ -1,4 +1,6 @@
 // Settles the sheet on standard input and prints its ledger.
+#![tactic(auto)]
+
 use std::io;
 use std::io::{BufWriter, Read, Write};
 use terminal::settle;

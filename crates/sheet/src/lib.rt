@@ -1,4 +1,5 @@
 // The sheet of commands: what its bytes mean at a place, and the bytes of a command.
+#![tactic(auto)]
 
 // The reading place, and the guard that puts it back.
 pub mod place;

@@ -1,4 +1,6 @@
 // The terminal: a sheet settled from its first byte to its last, and the page that is printed of it.
+#![tactic(auto)]
+
 ghost use Rattle.std.specs.Prelude.{◌≡◌, ℕ, ◌≤◌, List, [], ◌++◌, length, IfOk, OnOk};
 ghost use Rattle.ledger.specs.Rolls.{kept};
 ghost use Rattle.lines.specs.Lines.{entry_line, note_line, lines_of};

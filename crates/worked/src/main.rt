@@ -1,4 +1,6 @@
 // Settles the worked sheets that are named, one after another, each under its name.
+#![tactic(auto)]
+
 use std::fs::File;
 use std::io::{BufWriter, Read, Write};
 use std::{env, io};
