@@ -24,5 +24,5 @@ pub(crate) fn put_in_order(cards: &mut [u8])
     ensures shuffled { IsPermutation cards.old cards.new }
     ensures up { IsNonDecreasing cards.new }
 {
-    cards.sort();
+    cards.sort_unstable();
 }

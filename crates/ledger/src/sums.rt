@@ -19,7 +19,7 @@ pub trait SignedAmount {
 
 // The sum of the records' amounts, refused where there are too many or one amount is too large.
 pub fn sum<R: SignedAmount>(records: &[R]) -> Result<i64, Refusal>
-    ensures { result ≡ summed amount_of records.now }
+    ensures { result ≡ summed R.amount_of records.now }
 {
     if records.len() > MOST_RECORDS {
         return Err(Refusal::new(Cause::TotalTooLarge, 0));
@@ -33,7 +33,7 @@ pub fn sum<R: SignedAmount>(records: &[R]) -> Result<i64, Refusal>
 // The total of so few records that it cannot overflow, or None at an amount past the limit.
 fn total<R: SignedAmount>(records: &[R]) -> Option<i64>
     requires { length records.now ≤ most_records }
-    ensures { result ≡ total_within amount_of records.now }
+    ensures { result ≡ total_within R.amount_of records.now }
 {
     let mut total: i64 = 0;
     for record in records {

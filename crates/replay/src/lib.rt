@@ -22,8 +22,8 @@ pub struct Request<'a> {
 
 // Performs one call with a ledger of its own, on the first of the lent places.
 fn perform_one<G: Game>(table: &mut Table<G>, request: &Request<'_>, slots: &mut [Entry])
-    requires { Sound (rules table.old.game) table.old.books }
-    ensures one { OneMore (rules table.old.game) (call_of request.now.command) (min request.now.places (length slots.old)) table.old.books table.new.books }
+    requires { Sound (G.rules table.old.game) table.old.books }
+    ensures one { OneMore (G.rules table.old.game) (call_of request.now.command) (min request.now.places (length slots.old)) table.old.books table.new.books }
     ensures game { table.new.game ≡ table.old.game }
 {
     let places = request.places.min(slots.len());
@@ -40,7 +40,7 @@ pub fn replay<G: Game + Drop>(
     requests: &[Request<'_>],
     slots: &mut [Entry],
 ) -> Result<Table<G>, Refusal>
-    ensures replayed { Replayed rules game minimum maximum tray requests.now (length slots.old) result }
+    ensures replayed { Replayed G.rules game minimum maximum tray requests.now (length slots.old) result }
 {
     let mut table = Table::open(game, minimum, maximum, tray)?;
     for request in requests {

@@ -43,9 +43,9 @@ fn step<G: Game>(
     ledger: &mut Roll<'_, Entry>,
     notes: &mut Roll<'_, Note>,
 ) -> Option<Ended>
-    requires sound { Sound (rules table.old.game) table.old.books }
+    requires sound { Sound (G.rules table.old.game) table.old.books }
     requires short { length sheet.now ≤ longest }
-    ensures stepped { Stepped (rules table.old.game) sheet.now table.old.books place.old.at ledger.old notes.old result table.new.books place.new.at ledger.new notes.new }
+    ensures stepped { Stepped (G.rules table.old.game) sheet.now table.old.books place.old.at ledger.old notes.old result table.new.books place.new.at ledger.new notes.new }
     ensures game { table.new.game ≡ table.old.game }
 {
     let at = place.at;
@@ -78,9 +78,9 @@ fn go_on<G: Game>(
     ledger: &mut Roll<'_, Entry>,
     notes: &mut Roll<'_, Note>,
 ) -> Ended
-    requires sound { Sound (rules table.old.game) table.old.books }
+    requires sound { Sound (G.rules table.old.game) table.old.books }
     requires short { length sheet.now ≤ longest }
-    ensures ran { Ran (rules table.old.game) sheet.now table.old.books place.old.at ledger.old notes.old result table.new.books place.new.at ledger.new notes.new }
+    ensures ran { Ran (G.rules table.old.game) sheet.now table.old.books place.old.at ledger.old notes.old result table.new.books place.new.at ledger.new notes.new }
     ensures game { table.new.game ≡ table.old.game }
 {
     loop {
@@ -98,8 +98,8 @@ pub fn run<G: Game>(
     ledger: &mut Roll<'_, Entry>,
     notes: &mut Roll<'_, Note>,
 ) -> Result<Ended, Refusal>
-    requires { Sound (rules table.old.game) table.old.books }
-    ensures answered { Answered (rules table.old.game) sheet.now table.old.books place.old.at ledger.old notes.old result table.new.books place.new.at ledger.new notes.new }
+    requires { Sound (G.rules table.old.game) table.old.books }
+    ensures answered { Answered (G.rules table.old.game) sheet.now table.old.books place.old.at ledger.old notes.old result table.new.books place.new.at ledger.new notes.new }
     ensures game { table.new.game ≡ table.old.game }
 {
     if sheet.len() > LONGEST {

@@ -3,7 +3,7 @@ use Rattle.std.proofs.Common.{◌≡◌, ℕ, zero, suc, ◌+◌, ◌-◌, ◌<�
 use lib.ListN.{length-replicate}
 use Rattle.std.proofs.lemmas.List.{get_or-set_same, get_or-set_other, take_at}
 use Rattle.std.proofs.lemmas.List.Sums.{sum_by-set}
-use Rattle.std.proofs.lemmas.Bool.{cases_eq, true≢false, false≢true, leb-false, ltb-false, eqb-true, eqb-false, or_parts, and_parts, and_cases, not_false, both_ways}
+use Rattle.std.proofs.lemmas.Bool.{cases_eq, true≢false, false≢true, leb-false, ltb-false, eqb-true, eqb-false, or_parts, and_parts, and_cases, not-false, both_ways}
 use Rattle.refusals.specs.declared.Cause.{Cause}
 use Rattle.refusals.specs.declared.Refusal.{Refusal}
 use Rattle.refusals.specs.Refusals.{first_cause}
@@ -93,7 +93,7 @@ module _ (R : Rules) (facts : Facts R) where
       let seat : s - 1 < 7 = (seat_here s p.1.0).1 in
       let space : j - 1 < 5 = space_here j (or_parts _ _ p.1.1.0).0 in
       let v = seat_at b (s - 1) in
-      let bare : get_or v.stakes (j - 1) 0 ≡ 0 = eqb-true _ _ (not_false _ p.1.1.1.1.0) in
+      let bare : get_or v.stakes (j - 1) 0 ≡ 0 = eqb-true _ _ (not-false _ p.1.1.1.1.0) in
       let h : j - 1 < length v.stakes = omega (arith, (sound.seats (s - 1) seat).small.five) in
       record {
         seat = seat;
@@ -102,7 +102,7 @@ module _ (R : Rules) (facts : Facts R) where
         few = ltb-false b.maximum n (or_parts (ltb n b.minimum) _ (or_parts (eqb n 0) _ p.1.1.1.0).1).1;
         rack = ltb-false v.rack n p.1.1.1.1.1.1.0;
         tray = ltb-false b.tray _ p.1.1.1.1.1.1.1.0;
-        stage = not_false _ p.0;
+        stage = not-false _ p.0;
         sums = omega (arith, sum_by-set (λ x. x) v.stakes (j - 1) n 0 h);
       }
 
@@ -129,13 +129,13 @@ module _ (R : Rules) (facts : Facts R) where
 
   pub raise_shown : (b : Books) (s free : ℕ) → Sound R b → NoneHolds (causes R b (Raise s) free) → ChoiceShown b s × (R.raise (seat_at b (s - 1)).stakes ≤ (seat_at b (s - 1)).rack)
   raise_shown b s free sound p =
-      let due_now : due R (seat_at b (s - 1)) ≡ true = not_false _ p.1.1.1.0 in (
+      let due_now : due R (seat_at b (s - 1)) ≡ true = not-false _ p.1.1.1.0 in (
         choice_shown b s sound p.0 p.1.0 due_now,
         ltb-false _ _ (⊎_elim (λ f. absurd (both_ways _ f due_now)) (λ h. h) (and_cases _ _ p.1.1.0)),
       )
 
   pub leave_shown : (b : Books) (s free : ℕ) → Sound R b → NoneHolds (causes R b (Leave s) free) → ChoiceShown b s × (R.leaves (seat_at b (s - 1)).stakes ≡ true)
-  leave_shown b s free sound p = (choice_shown b s sound p.0 p.1.0 (not_false _ p.1.1.0), not_false _ p.1.1.1.0)
+  leave_shown b s free sound p = (choice_shown b s sound p.0 p.1.0 (not-false _ p.1.1.0), not-false _ p.1.1.1.0)
 
   pub total_after_settle : (b : Books) → Sound R b → missing R b ≡ 0 → (g : Stage) → b.stage ≡ g → total (settled_in R b g) ≡ total b
   total_after_settle b s m Betting e = refl
@@ -281,7 +281,7 @@ module _ (R : Rules) (facts : Facts R) where
       (omega (arith, total_set b (i - 1) v s.seven o.0.seat, s.within))
       (omega (arith, ceilings_set R b (i - 1) v s.seven o.0.seat, s.covered))
       (stands_dealt b (with_seat b (i - 1) v) b.stage o.0.stage s.stands)
-  sound_after b Settle free s p = sound_settled b s (eqb-true _ _ (not_false _ p.1.0)) b.stage refl
+  sound_after b Settle free s p = sound_settled b s (eqb-true _ _ (not-false _ p.1.0)) b.stage refl
   sound_after b Void free s p = sound_voided b s b.stage refl p.0
 
   pub did_sound : (b b' : Books) (c : Call) (free : ℕ) (r : Result (Unit {0}) Refusal) → Sound R b → Did R b c free r b' → Sound R b'

@@ -3,7 +3,7 @@ use Rattle.std.proofs.Common.{◌≡◌, ℕ, zero, suc, ◌+◌, ◌-◌, ◌<�
 use Rattle.std.proofs.lemmas.List.{get_or-set_same, get_or-set_other, take-append-le, take_at, get_or_append_left, get_or_at, length-append}
 use Rattle.std.proofs.lemmas.Int.{ints}
 use Rattle.std.proofs.lemmas.List.Sums.{sum_by_push, fold_push}
-use Rattle.std.proofs.lemmas.Bool.{cases_eq, cases_lt, true≢false, false≢true, ltb-false, eq-eqb, ne_eqb, eqb-true, and_parts, not_false}
+use Rattle.std.proofs.lemmas.Bool.{cases_eq, cases_lt, true≢false, false≢true, ltb-false, eq-eqb, ne_eqb, eqb-true, and_parts, not-false}
 use Rattle.std.proofs.lemmas.Bool.Decides.{nat_tests}
 use Rattle.refusals.specs.declared.Cause.{Cause}
 use Rattle.refusals.specs.declared.Cause.TheVariants.{WrongStage, ChoiceMissing, NoPlaceFree}
@@ -124,7 +124,7 @@ module _ (R : Rules) (facts : Facts R) where
         let o = leave_shown R facts b i free s p in
         let a = l.seats (i - 1) o.0.seat in
         record { seats = agree_set b t.slip (i - 1) _ _ s.seven (record { balance = a.balance; stakes = a.stakes; choice = refl }) l.seats; deal = l.deal }
-    tallied_after Settle free s p = settled_tallied s (eqb-true _ _ (not_false _ p.1.0)) b.stage t.deal refl l.deal p.0
+    tallied_after Settle free s p = settled_tallied s (eqb-true _ _ (not-false _ p.1.0)) b.stage t.deal refl l.deal p.0
     tallied_after Void free s p = voided_tallied s b.stage refl p.0
 
   total_after : (b : Books) (c : Call) (free : ℕ) → Sound R b → NoneHolds (causes R b c free) → total (after R b c) + takes_away c ≡ total b + brings c
@@ -137,7 +137,7 @@ module _ (R : Rules) (facts : Facts R) where
   total_after b (Deal cards) free s p = refl
   total_after b (Raise i) free s p = let o = raise_shown R facts b i free s p in omega (arith, total_set b (i - 1) (with_raise (seat_at b (i - 1)) (R.raise (seat_at b (i - 1)).stakes)) s.seven o.0.seat, o.1, o.0.unraised)
   total_after b (Leave i) free s p = let o = leave_shown R facts b i free s p in omega (arith, total_set b (i - 1) (with_leave (seat_at b (i - 1))) s.seven o.0.seat)
-  total_after b Settle free s p = ap (λ n. n + 0) (total_after_settle R facts b s (eqb-true _ _ (not_false _ p.1.0)) b.stage refl)
+  total_after b Settle free s p = ap (λ n. n + 0) (total_after_settle R facts b s (eqb-true _ _ (not-false _ p.1.0)) b.stage refl)
   total_after b Void free s p = ap (λ n. n + 0) (total_after_void R facts b s b.stage refl p.0)
 
   -- whether a deal is on the table

@@ -23,8 +23,8 @@ fn is_no_space(space: u8) -> bool
 impl<G: Game> Table<G> {
     // Moves a stake from the rack to an empty space, as far as the tray covers the ceilings then.
     pub(crate) fn bet(&mut self, seat: u8, space: u8, amount: u32) -> Result<(), Refusal>
-        requires { Sound (rules self.old.game) self.old.books }
-        ensures did { Did (rules self.old.game) self.old.books (Bet seat space amount) 0 result self.new.books }
+        requires { Sound (G.rules self.old.game) self.old.books }
+        ensures did { Did (G.rules self.old.game) self.old.books (Bet seat space amount) 0 result self.new.books }
         ensures game { self.new.game ≡ self.old.game }
     {
         let Stage::Betting = self.books.stage else {
@@ -70,8 +70,8 @@ impl<G: Game> Table<G> {
 
     // Takes the cards of a round for the seats that stake, and counts the round.
     pub(crate) fn deal(&mut self, cards: &[u8]) -> Result<(), Refusal>
-        requires { Sound (rules self.old.game) self.old.books }
-        ensures did { Did (rules self.old.game) self.old.books (Deal cards.now) 0 result self.new.books }
+        requires { Sound (G.rules self.old.game) self.old.books }
+        ensures did { Did (G.rules self.old.game) self.old.books (Deal cards.now) 0 result self.new.books }
         ensures game { self.new.game ≡ self.old.game }
     {
         let Stage::Betting = self.books.stage else {

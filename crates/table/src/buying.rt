@@ -19,8 +19,8 @@ pub(crate) fn is_no_seat(seat: u8) -> bool
 impl<G: Game> Table<G> {
     // Adds chips to a rack.
     pub(crate) fn buy(&mut self, seat: u8, amount: u64) -> Result<(), Refusal>
-        requires { Sound (rules self.old.game) self.old.books }
-        ensures did { Did (rules self.old.game) self.old.books (Buy seat amount) 0 result self.new.books }
+        requires { Sound (G.rules self.old.game) self.old.books }
+        ensures did { Did (G.rules self.old.game) self.old.books (Buy seat amount) 0 result self.new.books }
         ensures game { self.new.game ≡ self.old.game }
     {
         if is_no_seat(seat) {
@@ -41,8 +41,8 @@ impl<G: Game> Table<G> {
 
     // Takes chips from a rack.
     pub(crate) fn cash(&mut self, seat: u8, amount: u64) -> Result<(), Refusal>
-        requires { Sound (rules self.old.game) self.old.books }
-        ensures did { Did (rules self.old.game) self.old.books (Cash seat amount) 0 result self.new.books }
+        requires { Sound (G.rules self.old.game) self.old.books }
+        ensures did { Did (G.rules self.old.game) self.old.books (Cash seat amount) 0 result self.new.books }
         ensures game { self.new.game ≡ self.old.game }
     {
         if is_no_seat(seat) {
@@ -63,8 +63,8 @@ impl<G: Game> Table<G> {
 
     // Adds chips to the tray.
     pub(crate) fn fill(&mut self, amount: u64) -> Result<(), Refusal>
-        requires { Sound (rules self.old.game) self.old.books }
-        ensures did { Did (rules self.old.game) self.old.books (Fill amount) 0 result self.new.books }
+        requires { Sound (G.rules self.old.game) self.old.books }
+        ensures did { Did (G.rules self.old.game) self.old.books (Fill amount) 0 result self.new.books }
         ensures game { self.new.game ≡ self.old.game }
     {
         if amount == 0 {
@@ -79,8 +79,8 @@ impl<G: Game> Table<G> {
 
     // Takes chips from the tray, as far as the ceilings stay covered.
     pub(crate) fn draw(&mut self, amount: u64) -> Result<(), Refusal>
-        requires { Sound (rules self.old.game) self.old.books }
-        ensures did { Did (rules self.old.game) self.old.books (Draw amount) 0 result self.new.books }
+        requires { Sound (G.rules self.old.game) self.old.books }
+        ensures did { Did (G.rules self.old.game) self.old.books (Draw amount) 0 result self.new.books }
         ensures game { self.new.game ≡ self.old.game }
     {
         if amount == 0 {

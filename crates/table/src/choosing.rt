@@ -14,8 +14,8 @@ use refusals::{Cause, Refusal};
 impl<G: Game> Table<G> {
     // Moves the game's raise from the rack to the raise space.
     pub(crate) fn raise(&mut self, seat: u8) -> Result<(), Refusal>
-        requires { Sound (rules self.old.game) self.old.books }
-        ensures did { Did (rules self.old.game) self.old.books (Raise seat) 0 result self.new.books }
+        requires { Sound (G.rules self.old.game) self.old.books }
+        ensures did { Did (G.rules self.old.game) self.old.books (Raise seat) 0 result self.new.books }
         ensures game { self.new.game ≡ self.old.game }
     {
         if let Stage::Betting = self.books.stage {
@@ -42,8 +42,8 @@ impl<G: Game> Table<G> {
 
     // Marks the seat as left.
     pub(crate) fn leave(&mut self, seat: u8) -> Result<(), Refusal>
-        requires { Sound (rules self.old.game) self.old.books }
-        ensures did { Did (rules self.old.game) self.old.books (Leave seat) 0 result self.new.books }
+        requires { Sound (G.rules self.old.game) self.old.books }
+        ensures did { Did (G.rules self.old.game) self.old.books (Leave seat) 0 result self.new.books }
         ensures game { self.new.game ≡ self.old.game }
     {
         if let Stage::Betting = self.books.stage {

@@ -21,13 +21,13 @@ impl<G: Game> Table<G> {
     // Settles one seat. One that does not stake only has its choice ended.
     fn settle_seat(&mut self, k: usize, round: &Round, ledger: &mut Roll<'_, Entry>)
         requires seat { k < 7 }
-        requires sound { Sound (rules self.old.game) self.old.books }
+        requires sound { Sound (G.rules self.old.game) self.old.books }
         requires dealt { self.old.books.stage ≡ Dealt round.now }
-        requires may { May (rules self.old.game) (seat_at self.old.books k) }
+        requires may { May (G.rules self.old.game) (seat_at self.old.books k) }
         requires room { one_if (does_stake (seat_at self.old.books k)) ≤ free ledger.old }
-        ensures books { self.new.books ≡ settle_seat (rules self.old.game) (deal_of round.now) self.old.books k }
+        ensures books { self.new.books ≡ settle_seat (G.rules self.old.game) (deal_of round.now) self.old.books k }
         ensures game { self.new.game ≡ self.old.game }
-        ensures ledger { Written ledger.old ledger.new (entry_at (rules self.old.game) self.old.books.rounds (deal_of round.now) k (seat_at self.old.books k)) }
+        ensures ledger { Written ledger.old ledger.new (entry_at (G.rules self.old.game) self.old.books.rounds (deal_of round.now) k (seat_at self.old.books k)) }
     {
         if !self.stakes_at(k) {
             self.books.end_choice(k);
@@ -42,10 +42,10 @@ impl<G: Game> Table<G> {
 
     // Settles the round, with an entry for each seat that stakes.
     pub(crate) fn settle(&mut self, ledger: &mut Roll<'_, Entry>) -> Result<(), Refusal>
-        requires { Sound (rules self.old.game) self.old.books }
-        ensures did { Did (rules self.old.game) self.old.books Settle (free ledger.old) result self.new.books }
+        requires { Sound (G.rules self.old.game) self.old.books }
+        ensures did { Did (G.rules self.old.game) self.old.books Settle (free ledger.old) result self.new.books }
         ensures game { self.new.game ≡ self.old.game }
-        ensures ledger { Written ledger.old ledger.new (either result (writes (rules self.old.game) self.old.books Settle) []) }
+        ensures ledger { Written ledger.old ledger.new (either result (writes (G.rules self.old.game) self.old.books Settle) []) }
     {
         let Stage::Dealt(round) = self.books.stage else {
             return Err(Refusal::new(Cause::WrongStage, 0));
@@ -67,7 +67,7 @@ impl<G: Game> Table<G> {
     // Puts one seat's stakes and raise back into its rack, and ends its choice.
     fn void_seat(&mut self, k: usize)
         requires seat { k < 7 }
-        requires sound { Sound (rules self.old.game) self.old.books }
+        requires sound { Sound (G.rules self.old.game) self.old.books }
         ensures books { self.new.books ≡ void_seat self.old.books k }
         ensures game { self.new.game ≡ self.old.game }
     {
@@ -81,8 +81,8 @@ impl<G: Game> Table<G> {
 
     // Voids the round: all stakes go back, raises too, and nothing is written.
     pub(crate) fn void(&mut self) -> Result<(), Refusal>
-        requires { Sound (rules self.old.game) self.old.books }
-        ensures did { Did (rules self.old.game) self.old.books Void 0 result self.new.books }
+        requires { Sound (G.rules self.old.game) self.old.books }
+        ensures did { Did (G.rules self.old.game) self.old.books Void 0 result self.new.books }
         ensures game { self.new.game ≡ self.old.game }
     {
         if let Stage::Betting = self.books.stage {

@@ -35,7 +35,7 @@ impl<G> Table<G> {
 impl<G: Game> Table<G> {
     // Tray, racks and spaces.
     pub(crate) fn total(&self) -> u64
-        requires { Sound (rules self.now.game) self.now.books }
+        requires { Sound (G.rules self.now.game) self.now.books }
         ensures { result ≡ total self.now.books }
     {
         let mut sum = self.books.tray;
@@ -49,7 +49,7 @@ impl<G: Game> Table<G> {
     // The ceilings of all seats, added.
     pub(crate) fn ceilings(&self, seats: &[Seat; 7]) -> u64
         requires { (k : ℕ) → k < 7 → Small (slice_index_or seats.now k nobody).stakes }
-        ensures { result ≡ ceilings (rules self.now.game) seats.now }
+        ensures { result ≡ ceilings (G.rules self.now.game) seats.now }
     {
         let mut sum = 0;
         for i in 0..7 {
@@ -61,7 +61,7 @@ impl<G: Game> Table<G> {
     // Whether the seat stakes.
     pub(crate) fn stakes_at(&self, k: usize) -> bool
         requires seat { k < 7 }
-        requires sound { Sound (rules self.now.game) self.now.books }
+        requires sound { Sound (G.rules self.now.game) self.now.books }
         ensures { result ≡ does_stake (seat_at self.now.books k) }
     {
         let s = self.books.seats[k];
@@ -70,7 +70,7 @@ impl<G: Game> Table<G> {
 
     // Who stakes, from the first seat on.
     pub(crate) fn staking(&self) -> [bool; 7]
-        requires { Sound (rules self.now.game) self.now.books }
+        requires { Sound (G.rules self.now.game) self.now.books }
         ensures { result ≡ staking self.now.books }
     {
         [
@@ -86,7 +86,7 @@ impl<G: Game> Table<G> {
 
     // How many seats stake.
     pub(crate) fn stakers(&self) -> usize
-        requires { Sound (rules self.now.game) self.now.books }
+        requires { Sound (G.rules self.now.game) self.now.books }
         ensures { result ≡ stakers self.now.books }
     {
         let mut count = 0;
@@ -101,7 +101,7 @@ impl<G: Game> Table<G> {
     // Whether a choice is due at the seat.
     pub(crate) fn is_due(&self, k: usize) -> bool
         requires seat { k < 7 }
-        ensures { result ≡ due (rules self.now.game) (seat_at self.now.books k) }
+        ensures { result ≡ due (G.rules self.now.game) (seat_at self.now.books k) }
     {
         let s = self.books.seats[k];
         match s.choice {
@@ -112,7 +112,7 @@ impl<G: Game> Table<G> {
 
     // The number of the lowest seat whose choice is missing; 0 where none is.
     pub(crate) fn missing(&self) -> u8
-        ensures { result ≡ missing (rules self.now.game) self.now.books }
+        ensures { result ≡ missing (G.rules self.now.game) self.now.books }
     {
         for k in 0..7 {
             if self.is_due(k) {

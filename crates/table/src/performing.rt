@@ -19,8 +19,8 @@ impl<G: Game> Table<G> {
         command: Command<'_>,
         ledger: &mut Roll<'_, Entry>,
     ) -> Result<(), Refusal>
-        requires { Sound (rules self.old.game) self.old.books }
-        ensures performed { Performed (rules self.old.game) self.old.books ledger.old (call_of command.entry) result self.new.books ledger.new }
+        requires { Sound (G.rules self.old.game) self.old.books }
+        ensures performed { Performed (G.rules self.old.game) self.old.books ledger.old (call_of command.entry) result self.new.books ledger.new }
         ensures game { self.new.game ≡ self.old.game }
     {
         match (self.books.stage, command) {

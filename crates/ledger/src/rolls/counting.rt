@@ -8,7 +8,7 @@ use crate::seated::NamesSeat;
 impl<R: NamesSeat + Drop> Roll<'_, R> {
     // How many of the kept records name this seat.
     pub fn count_of(&self, seat: u8) -> usize
-        ensures { result ≡ count_of seat_of seat (kept self.now) }
+        ensures { result ≡ count_of R.seat_of seat (kept self.now) }
     {
         count_in(self.records(), seat)
     }
@@ -16,7 +16,7 @@ impl<R: NamesSeat + Drop> Roll<'_, R> {
 
 // How many of these records name this seat.
 fn count_in<R: NamesSeat>(records: &[R], seat: u8) -> usize
-    ensures { result ≡ count_of seat_of seat records.now }
+    ensures { result ≡ count_of R.seat_of seat records.now }
 {
     let mut count: usize = 0;
     for record in records {

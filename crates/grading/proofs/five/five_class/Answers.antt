@@ -11,19 +11,19 @@ use Rattle.grading.proofs.Admitted.{refused_too, given_too, admitted, not_admitt
 use Rattle.grading.proofs.Laws.{five_class_any_order}
 use Rattle.grading.proofs.five.five_class.Goals as goal
 
-pub returns-in-err-admit : goal.returns-in-err-admit
+pub returns-in_err-admit : goal.returns-in_err-admit
 unfolding five_class
-returns-in-err-admit c =
+returns-in_err-admit c =
     let cs = c.args.cards.now in
-    let e = c.in-err-admit.field-0.0 in
-    let p = err_from_is_err_and c.from-residual.result c.from-residual.ensures.1 in
-    let class : c.from-residual.result ≡ five_class cs =
-    rw (p.1, p.2) (refused_too (first_cause (hand_causes 5 cs)) tt (five_hand cs).class e c.in-err-admit.ensures) in
+    let e = c.in_err-admit.field-0.0 in
+    let p = err_from_is_err_and c.from_residual.result c.from_residual.ensures.1 in
+    let class : c.from_residual.result ≡ five_class cs =
+    rw (p.1, p.2) (refused_too (first_cause (hand_causes 5 cs)) tt (five_hand cs).class e c.in_err-admit.ensures) in
     let Answer : Result FiveClass Refusal → Type 0 = λ r. OfOneClass FiveOnly 5 cs r in
     record {
       class = class;
       any_order = λ es sh. five_class_any_order cs es sh ∙ sym class;
-      one_class = subst Answer (sym p.1) (not_admitted 5 cs tt e (sym c.in-err-admit.ensures));
+      one_class = subst Answer (sym p.1) (not_admitted 5 cs tt e (sym c.in_err-admit.ensures));
     }
 
 pub returns : goal.returns
@@ -32,9 +32,9 @@ returns c =
     let cs = c.args.cards.now in
     let class =
     ap (λ h. Ok h.class) c.of_five.ensures.hand
-    ∙ given_too (first_cause (hand_causes 5 cs)) tt c.in-ok-admit.field-0 (five_hand cs).class c.in-ok-admit.ensures in
+    ∙ given_too (first_cause (hand_causes 5 cs)) tt c.in_ok-admit.field-0 (five_hand cs).class c.in_ok-admit.ensures in
     record {
       class = class;
       any_order = λ es sh. five_class_any_order cs es sh ∙ sym class;
-      one_class = ((admitted 5 cs tt c.in-ok-admit.field-0 (sym c.in-ok-admit.ensures)).0, c.of_five.ensures.only);
+      one_class = ((admitted 5 cs tt c.in_ok-admit.field-0 (sym c.in_ok-admit.ensures)).0, c.of_five.ensures.only);
     }

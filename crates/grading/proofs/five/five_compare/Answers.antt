@@ -16,20 +16,20 @@ use Rattle.grading.proofs.five.five_compare.Goals as goal
 five_wins : (cs ds : List ℕ) (r : Result Comparison Refusal) → r ≡ five_compared cs ds → HigherClassWins five_below five_class cs ds r
 five_wins cs ds r e = subst (λ x. HigherClassWins five_below five_class cs ds x) (sym e) (five_higher_class_wins cs ds)
 
-pub returns-in-err-admit-both : goal.returns-in-err-admit-both
+pub returns-in_err-admit_both : goal.returns-in_err-admit_both
 unfolding five_compared
-returns-in-err-admit-both c =
+returns-in_err-admit_both c =
     let cs = c.args.first.now in
     let ds = c.args.second.now in
-    let e = c.in-err-admit-both.field-0.0 in
-    let p = err_from_is_err_and c.from-residual.result c.from-residual.ensures.1 in
-    let answer : c.from-residual.result ≡ five_compared cs ds =
-    rw (p.1, p.2) (refused_too (first_cause (hands_causes 5 cs ds)) tt (five_order (five_hand cs) (five_hand ds)) e c.in-err-admit-both.ensures) in
+    let e = c.in_err-admit_both.field-0.0 in
+    let p = err_from_is_err_and c.from_residual.result c.from_residual.ensures.1 in
+    let answer : c.from_residual.result ≡ five_compared cs ds =
+    rw (p.1, p.2) (refused_too (first_cause (hands_causes 5 cs ds)) tt (five_order (five_hand cs) (five_hand ds)) e c.in_err-admit_both.ensures) in
     record {
       answer = answer;
       any_order = λ es fs sh sk. five_compared_any_orders cs ds es fs sh sk ∙ sym answer;
       swapped = five_compared_swapped cs ds ∙ ap swapped (sym answer);
-      classes = five_wins cs ds c.from-residual.result answer;
+      classes = five_wins cs ds c.from_residual.result answer;
     }
 
 pub returns : goal.returns
@@ -38,8 +38,8 @@ returns c =
     let cs = c.args.first.now in
     let ds = c.args.second.now in
     let answer : Ok c.compare.result ≡ five_compared cs ds =
-    ap Ok (c.compare.ensures ∙ (λ i. five_order (c.of_five.ensures.hand i) (c.of-five-2.ensures.hand i)))
-    ∙ given_too (first_cause (hands_causes 5 cs ds)) tt c.in-ok-admit-both.field-0 (five_order (five_hand cs) (five_hand ds)) c.in-ok-admit-both.ensures in
+    ap Ok (c.compare.ensures ∙ (λ i. five_order (c.of_five.ensures.hand i) (c.of_five-2.ensures.hand i)))
+    ∙ given_too (first_cause (hands_causes 5 cs ds)) tt c.in_ok-admit_both.field-0 (five_order (five_hand cs) (five_hand ds)) c.in_ok-admit_both.ensures in
     record {
       answer = answer;
       any_order = λ es fs sh sk. five_compared_any_orders cs ds es fs sh sk ∙ sym answer;

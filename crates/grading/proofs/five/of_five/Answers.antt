@@ -6,9 +6,9 @@ pub returns : goal.returns
 unfolding five_hand
 returns c =
     let cs = c.args.cards.now in
-    let ranked = c.ranks-of-ranked.ensures.ranked in
-    let suit = c.deciding-suit-suit.ensures ∙ ap (λ x. deciding_suit x cs) ranked in
+    let ranked = c.ranks_of-ranked.ensures.ranked in
+    let suit = c.deciding_suit-suit.ensures ∙ ap (λ x. deciding_suit x cs) ranked in
     record {
       hand = λ i. record { class = (ranked i).class; ranks = (ranked i).ranks; suit = suit i };
-      only = c.ranks-of-ranked.ensures.only;
+      only = c.ranks_of-ranked.ensures.only;
     }

@@ -3,6 +3,6 @@ use Rattle.grading.proofs.ranks.put_in_order.Goals as goal
 
 pub returns : goal.returns
 returns c = record {
-  shuffled = c.sort.ensures.permutation;
-  up = IsNonDecreasingBy-from_sort (λ x. x) c.sort.new.self c.sort.ensures.sorted;
+  shuffled = c.sort_unstable.ensures.permutation;
+  up = IsNonDecreasingBy-from_sort (λ x. x) c.sort_unstable.new.self c.sort_unstable.ensures.sorted;
 }

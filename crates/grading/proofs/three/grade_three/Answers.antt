@@ -7,15 +7,15 @@ use Rattle.grading.specs.Three.{three_hand}
 use Rattle.grading.proofs.Admitted.{refused_too, given_too}
 use Rattle.grading.proofs.three.grade_three.Goals as goal
 
-pub returns-in-err-admit : goal.returns-in-err-admit
+pub returns-in_err-admit : goal.returns-in_err-admit
 unfolding three_graded
-returns-in-err-admit c =
+returns-in_err-admit c =
     let cs = c.args.cards.now in
-    let p = err_from_is_err_and c.from-residual.result c.from-residual.ensures.1 in
-    rw (p.1, p.2) (refused_too (first_cause (hand_causes 3 cs)) tt (three_hand cs) c.in-err-admit.field-0.0 c.in-err-admit.ensures)
+    let p = err_from_is_err_and c.from_residual.result c.from_residual.ensures.1 in
+    rw (p.1, p.2) (refused_too (first_cause (hand_causes 3 cs)) tt (three_hand cs) c.in_err-admit.field-0.0 c.in_err-admit.ensures)
 
 pub returns : goal.returns
 unfolding three_graded
 returns c =
     let cs = c.args.cards.now in
-    ap Ok c.of-three.ensures.hand ∙ given_too (first_cause (hand_causes 3 cs)) tt c.in-ok-admit.field-0 (three_hand cs) c.in-ok-admit.ensures
+    ap Ok c.of_three.ensures.hand ∙ given_too (first_cause (hand_causes 3 cs)) tt c.in_ok-admit.field-0 (three_hand cs) c.in_ok-admit.ensures

@@ -16,20 +16,20 @@ use Rattle.grading.proofs.three.three_compare.Goals as goal
 three_wins : (cs ds : List ℕ) (r : Result Comparison Refusal) → r ≡ three_compared cs ds → HigherClassWins three_below three_class cs ds r
 three_wins cs ds r e = subst (λ x. HigherClassWins three_below three_class cs ds x) (sym e) (three_higher_class_wins cs ds)
 
-pub returns-in-err-admit-both : goal.returns-in-err-admit-both
+pub returns-in_err-admit_both : goal.returns-in_err-admit_both
 unfolding three_compared
-returns-in-err-admit-both c =
+returns-in_err-admit_both c =
     let cs = c.args.first.now in
     let ds = c.args.second.now in
-    let e = c.in-err-admit-both.field-0.0 in
-    let p = err_from_is_err_and c.from-residual.result c.from-residual.ensures.1 in
-    let answer : c.from-residual.result ≡ three_compared cs ds =
-    rw (p.1, p.2) (refused_too (first_cause (hands_causes 3 cs ds)) tt (three_order (three_hand cs) (three_hand ds)) e c.in-err-admit-both.ensures) in
+    let e = c.in_err-admit_both.field-0.0 in
+    let p = err_from_is_err_and c.from_residual.result c.from_residual.ensures.1 in
+    let answer : c.from_residual.result ≡ three_compared cs ds =
+    rw (p.1, p.2) (refused_too (first_cause (hands_causes 3 cs ds)) tt (three_order (three_hand cs) (three_hand ds)) e c.in_err-admit_both.ensures) in
     record {
       answer = answer;
       any_order = λ es fs sh sk. three_compared_any_orders cs ds es fs sh sk ∙ sym answer;
       swapped = three_compared_swapped cs ds ∙ ap swapped (sym answer);
-      classes = three_wins cs ds c.from-residual.result answer;
+      classes = three_wins cs ds c.from_residual.result answer;
     }
 
 pub returns : goal.returns
@@ -38,8 +38,8 @@ returns c =
     let cs = c.args.first.now in
     let ds = c.args.second.now in
     let answer : Ok c.compare.result ≡ three_compared cs ds =
-    ap Ok (c.compare.ensures ∙ (λ i. three_order (c.of-three.ensures.hand i) (c.of-three-2.ensures.hand i)))
-    ∙ given_too (first_cause (hands_causes 3 cs ds)) tt c.in-ok-admit-both.field-0 (three_order (three_hand cs) (three_hand ds)) c.in-ok-admit-both.ensures in
+    ap Ok (c.compare.ensures ∙ (λ i. three_order (c.of_three.ensures.hand i) (c.of_three-2.ensures.hand i)))
+    ∙ given_too (first_cause (hands_causes 3 cs ds)) tt c.in_ok-admit_both.field-0 (three_order (three_hand cs) (three_hand ds)) c.in_ok-admit_both.ensures in
     record {
       answer = answer;
       any_order = λ es fs sh sk. three_compared_any_orders cs ds es fs sh sk ∙ sym answer;

@@ -5,8 +5,8 @@ use Rattle.ledger.specs.Sums.{within, all_within, total_of}
 use Rattle.ledger.proofs.Totals.{within_bounds, total_more, within_more, past_more, total_all, all_within_all}
 use Rattle.ledger.proofs.sums.total.Goals as goal
 
-pub returns-then-not-is-within : goal.returns-then-not-is-within
-returns-then-not-is-within g c =
+pub returns-then-not-is_within : goal.returns-then-not-is_within
+returns-then-not-is_within g c =
     let f = g.R.SignedAmount.amount_of in
     let xs = c.args.records.now in
     let fits : SFits w64 c.amount-amount.result = search rules in
@@ -21,7 +21,7 @@ loop-record-preserved g c =
     let i = c.loop-record.record-index in
     let x = c.record-item.result in
     let fits : SFits w64 c.amount-amount.result = search rules in
-    let own : within c.amount-amount.result ≡ true = ap within (sym (to_z-of_z w64 _ fits)) ∙ sym c.if-not-is-within.ensures in
+    let own : within c.amount-amount.result ≡ true = ap within (sym (to_z-of_z w64 _ fits)) ∙ sym c.if-not-is_within.ensures in
     let bounds = within_bounds c.amount-amount.result own in
     let more = total_more f xs i x c.loop-record-test.true c.record-item.is in
     let same = within_more f xs i x c.loop-record-test.true c.record-item.is (ap within (sym c.amount-amount.ensures) ∙ own) in

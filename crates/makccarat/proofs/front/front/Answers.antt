@@ -5,4 +5,4 @@ use Rattle.makccarat.proofs.front.front.Goals as goal
 
 pub returns : goal.returns
 returns c =
-    one_front_of c.args.way c.args.row.now c.called.result c.called.ensures (omega arith) c.if-not-all-cards.ensures
+    one_front_of c.args.way c.args.row.now c.called.result c.called.ensures (omega arith) c.if-not-all_cards.ensures

@@ -5,13 +5,13 @@ use Rattle.poker.specs.Ranks.{one_between}
 use Rattle.poker.proofs.Between.{one_drop_yes, one_drop_no}
 use Rattle.poker.proofs.ranks.one_between.Goals as goal
 
-pub returns-then-is-between : goal.returns-then-is-between
-returns-then-is-between c =
-    sym (one_drop_yes c.args.low c.args.high c.args.cards.now c.loop-card.card-index c.loop-card-test.true c.if-is-between.ensures) ∙ c.loop-card.invariant
+pub returns-then-is_between : goal.returns-then-is_between
+returns-then-is_between c =
+    sym (one_drop_yes c.args.low c.args.high c.args.cards.now c.loop-card.card-index c.loop-card-test.true c.if-is_between.ensures) ∙ c.loop-card.invariant
 
 pub loop-card-preserved : goal.loop-card-preserved
 loop-card-preserved c =
-    sym (one_drop_no c.args.low c.args.high c.args.cards.now c.loop-card.card-index c.loop-card-test.true c.if-is-between.ensures) ∙ c.loop-card.invariant
+    sym (one_drop_no c.args.low c.args.high c.args.cards.now c.loop-card.card-index c.loop-card-test.true c.if-is_between.ensures) ∙ c.loop-card.invariant
 
 pub returns : goal.returns
 returns c =

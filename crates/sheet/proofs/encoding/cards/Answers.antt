@@ -10,4 +10,4 @@ returns c =
     let count : n + 2 - 2 ≡ n = omega arith in
     let zeros : List ℕ = replicate 40 0 in
     let rest : drop (n + 2 - 2) zeros ≡ replicate (40 - n) 0 = ap (λ k. drop k zeros) count ∙ drop-replicate n 40 0 in
-    (omega arith, (λ i. c.args.first ∷ n ∷ (c.copy-from-slice.ensures.after i ++ rest i)))
+    (omega arith, (λ i. c.args.first ∷ n ∷ (c.copy_from_slice.ensures.after i ++ rest i)))

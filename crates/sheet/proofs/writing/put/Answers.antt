@@ -9,10 +9,10 @@ returns c =
     let out = c.args.out.now in
     let at = c.args.at in
     let n = length c.args.bytes.now in
-    let fits : at + n ≤ length out = leb-true (at + n) (length out) (sym c.if-not-has-room.ensures) in
+    let fits : at + n ≤ length out = leb-true (at + n) (length out) (sym c.if-not-has_room.ensures) in
     let count : at + n - at ≡ n = omega arith in
     let rest : drop (at + n - at) (drop at out) ≡ drop (at + n) out = ap (λ k. drop k (drop at out)) count ∙ drop-drop n at out in
     record {
       answer = rw (le-ltb (length out) (at + n) fits) refl;
-      buffer = λ i. take at out ++ (c.copy-from-slice.ensures.after i ++ rest i);
+      buffer = λ i. take at out ++ (c.copy_from_slice.ensures.after i ++ rest i);
     }

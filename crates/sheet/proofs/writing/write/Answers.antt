@@ -5,9 +5,9 @@ use Rattle.sheet.proofs.writing.write.Goals as goal
 
 pub returns : goal.returns
 returns c =
-    let e = c.put-command.ensures in
+    let e = c.put_command.ensures in
     record {
       answer = e.answer;
       buffer = e.buffer;
-      back = reads_back (call_of c.args.command.now) e.fits c.args.out.now _ c.args.at c.put-command.result e.answer e.buffer;
+      back = reads_back (call_of c.args.command.now) e.fits c.args.out.now _ c.args.at c.put_command.result e.answer e.buffer;
     }

@@ -9,4 +9,4 @@ returns c =
     let zeros : List ℕ = replicate 40 0 in
     let count : n - 0 ≡ n = omega arith in
     let rest : drop (n - 0) zeros ≡ replicate (40 - n) 0 = ap (λ k. drop k zeros) count ∙ drop-replicate n 40 0 in
-    λ i. record { staking = c.args.staking; bytes = c.copy-from-slice.ensures.after i ++ rest i; count = n }
+    λ i. record { staking = c.args.staking; bytes = c.copy_from_slice.ensures.after i ++ rest i; count = n }

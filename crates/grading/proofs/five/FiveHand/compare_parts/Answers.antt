@@ -1,6 +1,5 @@
 use Rattle.std.proofs.Common.{◌≡◌, ap, ◌∙◌}
-use Rattle.std.specs.Cmp.{nat_cmp_total}
-use Rattle.std.specs.Cmp.Lexicographic.{slice_cmp, lex-says}
+use Rattle.std.specs.Cmp.Lexicographic.{slice_cmp}
 use Rattle.std.specs.Ordering.{ordering_then, nat_cmp}
 use Rattle.grading.specs.Five.{five_order}
 use Rattle.grading.specs.FiveClasses.{five_below}
@@ -15,7 +14,7 @@ returns c =
     let b = c.args.other.now in
     let classes : c.cmp-classes.result ≡ nat_cmp (five_below a.class) (five_below b.class) =
     c.cmp-classes.ensures ∙ (λ i. nat_cmp (c.below.ensures i) (c.below-2.ensures i)) in
-    let ranks : c.cmp.result ≡ slice_cmp nat_cmp a.ranks b.ranks = lex-says nat_cmp_total a.ranks b.ranks c.cmp.result c.cmp.ensures in
+    let ranks : c.cmp.result ≡ slice_cmp nat_cmp a.ranks b.ranks = c.cmp.ensures in
     let suits : c.cmp-2.result ≡ nat_cmp a.suit b.suit = c.cmp-2.ensures in
     let first = c.then.ensures ∙ (λ i. ordering_then (classes i) (ranks i)) in
     ap as_comparison

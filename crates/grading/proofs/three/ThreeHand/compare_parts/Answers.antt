@@ -1,6 +1,5 @@
 use Rattle.std.proofs.Common.{◌≡◌, ap, ◌∙◌}
-use Rattle.std.specs.Cmp.{nat_cmp_total}
-use Rattle.std.specs.Cmp.Lexicographic.{slice_cmp, lex-says}
+use Rattle.std.specs.Cmp.Lexicographic.{slice_cmp}
 use Rattle.std.specs.Ordering.{ordering_then, nat_cmp}
 use Rattle.grading.specs.Order.{as_comparison}
 use Rattle.grading.specs.Three.{three_order}
@@ -15,5 +14,5 @@ returns c =
     let b = c.args.other.now in
     let classes : c.cmp-classes.result ≡ nat_cmp (three_below a.class) (three_below b.class) =
     c.cmp-classes.ensures ∙ (λ i. nat_cmp (c.below.ensures i) (c.below-2.ensures i)) in
-    let ranks : c.cmp.result ≡ slice_cmp nat_cmp a.ranks b.ranks = lex-says nat_cmp_total a.ranks b.ranks c.cmp.result c.cmp.ensures in
+    let ranks : c.cmp.result ≡ slice_cmp nat_cmp a.ranks b.ranks = c.cmp.ensures in
     ap as_comparison (c.then.ensures ∙ (λ i. ordering_then (classes i) (ranks i)) ∙ two_steps (nat_cmp (three_below a.class) (three_below b.class)) (slice_cmp nat_cmp a.ranks b.ranks))

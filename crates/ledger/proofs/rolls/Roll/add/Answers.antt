@@ -4,8 +4,8 @@ use Rattle.std.proofs.lemmas.List.{take_more_set, length-set, length-take-le}
 use Rattle.ledger.proofs.Places.{next_free}
 use Rattle.ledger.proofs.rolls.Roll.add.Goals as goal
 
-pub write-next-requires : goal.write-next-requires
-write-next-requires g c = next_free c.args.self.now.slots.now c.args.self.now.len c.requires.room
+pub write_next-requires : goal.write_next-requires
+write_next-requires g c = next_free c.args.self.now.slots.now c.args.self.now.len c.requires.room
 
 pub returns : goal.returns
 returns g c =
@@ -17,5 +17,5 @@ returns g c =
       kept = cc (take_more_set slots len c.args.record next);
       lent = cc;
       places = cc (length-set slots len c.args.record);
-      slice = c.write-next.ensures.slice;
+      slice = c.write_next.ensures.slice;
     }

@@ -3,5 +3,5 @@ use Rattle.std.proofs.Common.{◌-◌, arith}
 use Rattle.table.proofs.Totals.{chips_within}
 use Rattle.table.proofs.holdings.Table.buy.Goals as goal
 
-pub overflow-add-s : goal.overflow-add-s
-overflow-add-s g c = omega (arith, chips_within c.args.self.now.books (c.args.seat - 1), c.requires.within)
+pub overflow_add-s : goal.overflow_add-s
+overflow_add-s g c = omega (arith, chips_within c.args.self.now.books (c.args.seat - 1), c.requires.within)

@@ -4,8 +4,8 @@ use Rattle.std.proofs.lemmas.List.Sums.{sum_by_more}
 use Rattle.books.specs.Books.{nobody}
 use Rattle.table.proofs.holdings.Table.ceilings.Goals as goal
 
-pub overflow-add-sum : goal.overflow-add-sum
-overflow-add-sum g c =
+pub overflow_add-sum : goal.overflow_add-sum
+overflow_add-sum g c =
     let f = g.met.G.Game.facts c.args.self.now.game in
     omega (arith, f.ceilings _ (c.requires c.loop-i.i c.loop-i-test.true), c.ceiling-sum.ensures, c.loop-i.invariant.1)
 

@@ -13,17 +13,17 @@ more p k t lt e =
     ∙ ap (λ j. cond (p j) (j + 1) (first_seat p (drop (k + 1) every))) (every_at k lt)
     ∙ ap (λ b. cond b (k + 1) (first_seat p (drop (k + 1) every))) e
 
-pub returns-then-is-due : goal.returns-then-is-due
-returns-then-is-due g c =
+pub returns-then-is_due : goal.returns-then-is_due
+returns-then-is_due g c =
     let R = g.G.Game.rules c.args.self.now.game in
     let p : ℕ → Bool = λ k. due R (seat_at c.args.self.now.books k) in
-    sym (more p c.loop-k.k true c.loop-k-test.true (sym c.if-is-due.ensures)) ∙ c.loop-k.invariant
+    sym (more p c.loop-k.k true c.loop-k-test.true (sym c.if-is_due.ensures)) ∙ c.loop-k.invariant
 
 pub loop-k-preserved : goal.loop-k-preserved
 loop-k-preserved g c =
     let R = g.G.Game.rules c.args.self.now.game in
     let p : ℕ → Bool = λ k. due R (seat_at c.args.self.now.books k) in
-    sym (more p c.loop-k.k false c.loop-k-test.true (sym c.if-is-due.ensures)) ∙ c.loop-k.invariant
+    sym (more p c.loop-k.k false c.loop-k-test.true (sym c.if-is_due.ensures)) ∙ c.loop-k.invariant
 
 pub returns : goal.returns
 returns g c =

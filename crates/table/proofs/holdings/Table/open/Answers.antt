@@ -9,7 +9,7 @@ use Rattle.table.proofs.holdings.Table.open.Goals as goal
 pub returns : goal.returns
 returns g c =
     let fits : c.args.tray ≤ limit = c.if-tray-gt-LIMIT.false in
-    let good : bad_bounds c.args.minimum c.args.maximum ≡ false = sym c.if-are-bad-bounds.ensures in
+    let good : bad_bounds c.args.minimum c.args.maximum ≡ false = sym c.if-are_bad_bounds.ensures in
     let facts = g.met.G.Game.facts c.args.game in (
       rw (le-ltb limit c.args.tray fits, good) refl,
       refl,

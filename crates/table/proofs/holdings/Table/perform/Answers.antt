@@ -6,27 +6,27 @@ use Rattle.ledger.proofs.Writing.{written_none}
 use Rattle.table.proofs.Performed.{performed, performed_aside, open_again, late_bet, late_deal, early_raise, early_leave, early_settle, early_void}
 use Rattle.table.proofs.holdings.Table.perform.Goals as goal
 
-pub returns-in-default-Buy : goal.returns-in-default-Buy
-returns-in-default-Buy g c = record {
-  performed = performed_aside (g.G.Game.rules c.args.self.now.game) (g.met.G.Game.facts c.args.self.now.game) c.args.self.now.books _ c.args.ledger.now (call_of c.args.command) _ c.requires _ (ap call_of c.in-default-Buy.is-1) refl refl c.buy.ensures.did;
+pub returns-in_default-Buy : goal.returns-in_default-Buy
+returns-in_default-Buy g c = record {
+  performed = performed_aside (g.G.Game.rules c.args.self.now.game) (g.met.G.Game.facts c.args.self.now.game) c.args.self.now.books _ c.args.ledger.now (call_of c.args.command) _ c.requires _ (ap call_of c.in_default-Buy.is-1) refl refl c.buy.ensures.did;
   game = c.buy.ensures.game;
 }
 
-pub returns-in-default-Cash : goal.returns-in-default-Cash
-returns-in-default-Cash g c = record {
-  performed = performed_aside (g.G.Game.rules c.args.self.now.game) (g.met.G.Game.facts c.args.self.now.game) c.args.self.now.books _ c.args.ledger.now (call_of c.args.command) _ c.requires _ (ap call_of c.in-default-Cash.is-1) refl refl c.cash.ensures.did;
+pub returns-in_default-Cash : goal.returns-in_default-Cash
+returns-in_default-Cash g c = record {
+  performed = performed_aside (g.G.Game.rules c.args.self.now.game) (g.met.G.Game.facts c.args.self.now.game) c.args.self.now.books _ c.args.ledger.now (call_of c.args.command) _ c.requires _ (ap call_of c.in_default-Cash.is-1) refl refl c.cash.ensures.did;
   game = c.cash.ensures.game;
 }
 
-pub returns-in-default-Fill : goal.returns-in-default-Fill
-returns-in-default-Fill g c = record {
-  performed = performed_aside (g.G.Game.rules c.args.self.now.game) (g.met.G.Game.facts c.args.self.now.game) c.args.self.now.books _ c.args.ledger.now (call_of c.args.command) _ c.requires _ (ap call_of c.in-default-Fill.is-1) refl refl c.fill.ensures.did;
+pub returns-in_default-Fill : goal.returns-in_default-Fill
+returns-in_default-Fill g c = record {
+  performed = performed_aside (g.G.Game.rules c.args.self.now.game) (g.met.G.Game.facts c.args.self.now.game) c.args.self.now.books _ c.args.ledger.now (call_of c.args.command) _ c.requires _ (ap call_of c.in_default-Fill.is-1) refl refl c.fill.ensures.did;
   game = c.fill.ensures.game;
 }
 
-pub returns-in-default-Draw : goal.returns-in-default-Draw
-returns-in-default-Draw g c = record {
-  performed = performed_aside (g.G.Game.rules c.args.self.now.game) (g.met.G.Game.facts c.args.self.now.game) c.args.self.now.books _ c.args.ledger.now (call_of c.args.command) _ c.requires _ (ap call_of c.in-default-Draw.is-1) refl refl c.draw.ensures.did;
+pub returns-in_default-Draw : goal.returns-in_default-Draw
+returns-in_default-Draw g c = record {
+  performed = performed_aside (g.G.Game.rules c.args.self.now.game) (g.met.G.Game.facts c.args.self.now.game) c.args.self.now.books _ c.args.ledger.now (call_of c.args.command) _ c.requires _ (ap call_of c.in_default-Draw.is-1) refl refl c.draw.ensures.did;
   game = c.draw.ensures.game;
 }
 
@@ -66,9 +66,9 @@ returns-in-Dealt-Settle g c = record {
   game = c.settle.ensures.game;
 }
 
-pub returns-in-default-Open : goal.returns-in-default-Open
-returns-in-default-Open g c = record {
-  performed = performed_aside (g.G.Game.rules c.args.self.now.game) (g.met.G.Game.facts c.args.self.now.game) c.args.self.now.books _ c.args.ledger.now (call_of c.args.command) _ c.requires _ (ap call_of c.in-default-Open.is-1) refl refl (open_again (g.G.Game.rules c.args.self.now.game) c.args.self.now.books 0 _ _ _ c.new.ensures);
+pub returns-in_default-Open : goal.returns-in_default-Open
+returns-in_default-Open g c = record {
+  performed = performed_aside (g.G.Game.rules c.args.self.now.game) (g.met.G.Game.facts c.args.self.now.game) c.args.self.now.books _ c.args.ledger.now (call_of c.args.command) _ c.requires _ (ap call_of c.in_default-Open.is-1) refl refl (open_again (g.G.Game.rules c.args.self.now.game) c.args.self.now.books 0 _ _ _ c.new.ensures);
   game = refl;
 }
 

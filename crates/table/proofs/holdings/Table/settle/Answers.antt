@@ -18,8 +18,8 @@ loop-k-init g c =
     let enough : stakers c.args.self.now.books ≤ free c.args.ledger.now = omega (arith, c.if-free-stakers.false, c.stakers.ensures, c.free.ensures) in
     (refl, starts _ _ _ _ enough)
 
-pub settle-seat-requires : goal.settle-seat-requires
-settle-seat-requires g c =
+pub settle_seat-requires : goal.settle_seat-requires
+settle_seat-requires g c =
     let R = g.G.Game.rules c.args.self.now.game in
     let none : missing R c.args.self.now.books ≡ 0 = sym c.missing-missing.ensures ∙ c.if-missing-ne0.false in
     asks g.G.Game.rules g.met.G.Game.facts c.args.self.now.game c.in-Dealt.round c.args.self.now.books c.args.ledger.now c.requires c.in-Dealt.is none

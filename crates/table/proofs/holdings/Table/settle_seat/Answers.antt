@@ -12,16 +12,16 @@ use Rattle.table.proofs.Seats.{raised_small}
 use Rattle.table.proofs.Served.{served_is, some_laid, tray_fits, return_fits, paid_rack_fits, idle_settled}
 use Rattle.table.proofs.holdings.Table.settle_seat.Goals as goal
 
-pub returns-then-not-stakes-at : goal.returns-then-not-stakes-at
-returns-then-not-stakes-at g c =
+pub returns-then-not-stakes_at : goal.returns-then-not-stakes_at
+returns-then-not-stakes_at g c =
     let R = g.G.Game.rules c.args.self.now.game in
     let facts = g.met.G.Game.facts c.args.self.now.game in
     let b = c.args.self.now.books in
     let k = c.args.k in
     let d = deal_of c.args.round.now in
-    let idle = sym c.stakes-at.ensures ∙ c.if-not-stakes-at.true in
+    let idle = sym c.stakes_at.ensures ∙ c.if-not-stakes_at.true in
     record {
-      books = c.end-choice.ensures ∙ idle_settled R facts b k c.requires.sound c.requires.seat c.args.round.now c.requires.dealt idle;
+      books = c.end_choice.ensures ∙ idle_settled R facts b k c.requires.sound c.requires.seat c.args.round.now c.requires.dealt idle;
       game = refl;
       ledger = subst (Written c.args.ledger.now c.args.ledger.now) (ap (λ t. cond t (entry_of R b.rounds d k (seat_at b k) ∷ []) []) (sym idle)) (written_none c.args.ledger.now);
     }
@@ -34,7 +34,7 @@ serve-requires g c =
     let k = c.args.k in
     let r = c.args.round.now in
     let s = c.requires.sound in
-    let staked = sym c.stakes-at.ensures ∙ c.if-not-stakes-at.false in
+    let staked = sym c.stakes_at.ensures ∙ c.if-not-stakes_at.false in
     let told : c.returns-returned.result ≡ return_to R (deal_of r) k (seat_at b k) = c.returns-returned.ensures ∙ ap (λ x. R.returns k (seat_at b k).stakes (seat_at b k).choice (deal r.staking x)) c.cards.ensures in
     record {
       seat = c.requires.seat;
@@ -53,7 +53,7 @@ returns g c =
     let b = c.args.self.now.books in
     let k = c.args.k in
     let r = c.args.round.now in
-    let staked = sym c.stakes-at.ensures ∙ c.if-not-stakes-at.false in
+    let staked = sym c.stakes_at.ensures ∙ c.if-not-stakes_at.false in
     let told : c.returns-returned.result ≡ return_to R (deal_of r) k (seat_at b k) = c.returns-returned.ensures ∙ ap (λ x. R.returns k (seat_at b k).stakes (seat_at b k).choice (deal r.staking x)) c.cards.ensures in
     record {
       books = c.serve.ensures.books ∙ ap (λ n. paid (collected b k) k n) told ∙ served_is b k c.requires.sound.seven c.requires.seat (return_to R (deal_of r) k (seat_at b k));

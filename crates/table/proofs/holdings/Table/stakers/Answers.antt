@@ -6,7 +6,7 @@ use Rattle.books.specs.Books.{seat_at}
 use Rattle.table.specs.Holdings.{every, one_if, does_stake}
 use Rattle.table.proofs.Seats.{every_at}
 use Rattle.table.proofs.holdings.Table.stakers.Goals as goal
-use Rattle.table.proofs.holdings.Table.stakers.Goals.{then-stakes-at, else-stakes-at}
+use Rattle.table.proofs.holdings.Table.stakers.Goals.{then-stakes_at, else-stakes_at}
 
 -- a seat more is counted
 again : (f : ℕ → ℕ) (k n m : ℕ) → k < 7 → n ≤ k → m ≡ n + f k → f k ≤ 1 → n + sum_by f (drop k every) ≡ sum_by f every → (m ≤ k + 1) × (m + sum_by f (drop (k + 1) every) ≡ sum_by f every)
@@ -20,11 +20,11 @@ loop-k-preserved g c =
     let k = c.loop-k.k in
     let f : ℕ → ℕ = λ k. one_if (does_stake (seat_at b k)) in
     let i = c.loop-k.invariant in
-    elim c.if-stakes-at.branch [
-      | then-stakes-at w ↦ let one : f k ≡ 1 = ap one_if (sym w.if-stakes-at.ensures) in
-          again f k c.loop-k.count c.if-stakes-at.count c.loop-k-test.true i.0 (omega (arith, w.count-is)) (omega arith) i.1
-      | else-stakes-at w ↦ let none : f k ≡ 0 = ap one_if (sym w.if-stakes-at.ensures) in
-          again f k c.loop-k.count c.if-stakes-at.count c.loop-k-test.true i.0 (omega (arith, w.count-is)) (omega arith) i.1
+    elim c.if-stakes_at.branch [
+      | then-stakes_at w ↦ let one : f k ≡ 1 = ap one_if (sym w.if-stakes_at.ensures) in
+          again f k c.loop-k.count c.if-stakes_at.count c.loop-k-test.true i.0 (omega (arith, w.count-is)) (omega arith) i.1
+      | else-stakes_at w ↦ let none : f k ≡ 0 = ap one_if (sym w.if-stakes_at.ensures) in
+          again f k c.loop-k.count c.if-stakes_at.count c.loop-k-test.true i.0 (omega (arith, w.count-is)) (omega arith) i.1
     ]
 
 pub returns : goal.returns

@@ -10,14 +10,14 @@ laid-requires g c =
     let k = c.requires.seats c.loop-i.i c.loop-i-test.true in
     record { spaces = k.small.five; raise = raised_small _ (g.met.G.Game.facts c.args.self.now.game) _ k }
 
-pub overflow-add-sum : goal.overflow-add-sum
-overflow-add-sum g c =
+pub overflow_add-sum : goal.overflow_add-sum
+overflow_add-sum g c =
     let seats = c.args.self.now.books.seats in
     let lt : c.loop-i.i < length seats = omega (arith, c.requires.seven) in
     omega (arith, sum_by_more chips seats c.loop-i.i nobody lt, sum_by-take-le chips seats (c.loop-i.i + 1), c.requires.within, c.laid.ensures)
 
-pub overflow-add-sum-in-loop-i : goal.overflow-add-sum-in-loop-i
-overflow-add-sum-in-loop-i g c =
+pub overflow_add-sum-in-loop-i : goal.overflow_add-sum-in-loop-i
+overflow_add-sum-in-loop-i g c =
     let seats = c.args.self.now.books.seats in
     let lt : c.loop-i.i < length seats = omega (arith, c.requires.seven) in
     omega (arith, sum_by_more chips seats c.loop-i.i nobody lt, sum_by-take-le chips seats (c.loop-i.i + 1), c.requires.within, c.laid.ensures, c.loop-i.invariant)
