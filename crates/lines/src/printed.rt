@@ -15,7 +15,7 @@ pub trait Printed {
 
 // Prints a line for each record, in order.
 pub fn print_all<R: Printed>(page: &mut Vec<u8>, records: &[R]) -> Result<(), AllocError>
-    ensures { OnOk result (page.new.items ≡ page.old.items ++ lines_of line_of records.now) }
+    ensures { OnOk result (page.new.items ≡ page.old.items ++ lines_of R.line_of records.now) }
 {
     for record in records {
         record.print(page)?;

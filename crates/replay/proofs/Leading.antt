@@ -1,6 +1,6 @@
 -- A history leads on by one call, whose ledger has so many free places.
 use Rattle.std.proofs.Common.{◌≡◌, ℕ, ◌+◌, ◌<◌, ◌≤◌, min, List, [], ◌∷◌, ◌++◌, map, length, get_or, take, is_ok, Result, sym, refl, ap, ◌∙◌, subst, append_assoc, arith, length-take}
-use Rattle.std.proofs.lemmas.List.{map_append, take_more, take_all}
+use Rattle.std.proofs.lemmas.List.{map-append, take_more, take_all}
 use Rattle.refusals.specs.declared.Refusal.{Refusal}
 use Rattle.commands.specs.Calls.{Call, call_of}
 use Rattle.game.specs.Rules.{Rules}
@@ -43,8 +43,8 @@ played_more rules g' g same minimum maximum tray qs q₀ i places' places long b
     let more : take (i + 1) qs ≡ take i qs ++ q ∷ [] = take_more qs i q₀ lt in
     record {
       turns = h.turns ++ x ∷ [];
-      calls = map_append (λ u. u.call) h.turns (x ∷ []) ∙ ap (λ cs. cs ++ call_of q.command ∷ []) h.calls ∙ sym (map_append (λ r. call_of r.command) (take i qs) (q ∷ [])) ∙ ap (map (λ r. call_of r.command)) (sym more);
-      ledgers = map_append (λ u. u.free) h.turns (x ∷ []) ∙ ap (λ ns. ns ++ min q.places places ∷ []) h.ledgers ∙ sym (map_append (λ r. min r.places places) (take i qs) (q ∷ [])) ∙ ap (map (λ r. min r.places places)) (sym more);
+      calls = map-append (λ u. u.call) h.turns (x ∷ []) ∙ ap (λ cs. cs ++ call_of q.command ∷ []) h.calls ∙ sym (map-append (λ r. call_of r.command) (take i qs) (q ∷ [])) ∙ ap (map (λ r. call_of r.command)) (sym more);
+      ledgers = map-append (λ u. u.free) h.turns (x ∷ []) ∙ ap (λ ns. ns ++ min q.places places ∷ []) h.ledgers ∙ sym (map-append (λ r. min r.places places) (take i qs) (q ∷ [])) ∙ ap (map (λ r. min r.places places)) (sym more);
       sound = m.sound;
       reached = m.leads minimum maximum tray h.turns h.reached;
     }

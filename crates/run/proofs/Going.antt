@@ -1,6 +1,6 @@
 -- A run as it goes on from command to command.
 use Rattle.std.proofs.Common.{◌≡◌, ℕ, ◌+◌, ◌-◌, ◌<◌, ◌≤◌, Bool, true, false, cond, ◌||◌, eqb, ltb, List, [], ◌∷◌, ◌++◌, map, length, is_ok, Some, None, Ok, Err, Option, Result, sym, refl, ap, ◌∙◌, subst, append_assoc, arith, length-append}
-use Rattle.std.proofs.lemmas.List.{append-nil, map_append}
+use Rattle.std.proofs.lemmas.List.{append-nil, map-append}
 use Rattle.std.proofs.lemmas.Bool.{ltb-false, or_parts}
 use Rattle.refusals.specs.declared.Refusal.{Refusal}
 use Rattle.commands.specs.Calls.{Call}
@@ -113,7 +113,7 @@ module _ (R : Rules) (sheet : List ℕ) (short : length sheet ≤ longest) (b : 
         once = h.once
             ∙ ap (λ is. map (λ u. u.call) h.turns ++ calls_in is) here
             ∙ sym (append_assoc (map (λ u. u.call) h.turns) (c ∷ []) (calls_in (items_of sheet (p' + width_of c))))
-            ∙ ap (λ cs. cs ++ calls_in (items_of sheet (p' + width_of c))) (sym (map_append (λ u. u.call) h.turns (x ∷ [])))
+            ∙ ap (λ cs. cs ++ calls_in (items_of sheet (p' + width_of c))) (sym (map-append (λ u. u.call) h.turns (x ∷ [])))
             ∙ ap (λ k. map (λ u. u.call) (h.turns ++ x ∷ []) ++ calls_in (items_of sheet k)) (sym m.place);
         parts = h.parts
             ∙ ap (λ is. and_then h.entries h.notes (told R b' is)) here

@@ -4,18 +4,18 @@ use Rattle.table.specs.Soundness.{Sound}
 use Rattle.replay.proofs.Leading.{played_more, played_all}
 use Rattle.replay.proofs.replay.Goals as goal
 
-pub perform-one-requires : goal.perform-one-requires
-perform-one-requires g c = subst (λ x. Sound (g.G.Game.rules x) c.loop-request.table.books) (sym c.loop-request.invariant.0) c.loop-request.invariant.1.sound
+pub perform_one-requires : goal.perform_one-requires
+perform_one-requires g c = subst (λ x. Sound (g.G.Game.rules x) c.loop-request.table.books) (sym c.loop-request.invariant.0) c.loop-request.invariant.1.sound
 
 pub loop-request-preserved : goal.loop-request-preserved
 loop-request-preserved g c = (
-  c.perform-one.ensures.game ∙ c.loop-request.invariant.0,
-  played_more g.G.Game.rules _ _ c.loop-request.invariant.0 _ _ _ c.args.requests.now _ c.loop-request.request-index _ _ c.loop-request.auto.slots c.loop-request.table.books _ c.loop-request-test.true c.loop-request.invariant.1 c.perform-one.ensures.one,
+  c.perform_one.ensures.game ∙ c.loop-request.invariant.0,
+  played_more g.G.Game.rules _ _ c.loop-request.invariant.0 _ _ _ c.args.requests.now _ c.loop-request.request-index _ _ c.loop-request.auto.slots c.loop-request.table.books _ c.loop-request-test.true c.loop-request.invariant.1 c.perform_one.ensures.one,
 )
 
 pub returns : goal.returns
 returns g c =
-    let same = c.in-ok-table.ensures.1 in
+    let same = c.in_ok-table.ensures.1 in
     record {
       replayed = (
         c.loop-request.invariant.0 ∙ same,

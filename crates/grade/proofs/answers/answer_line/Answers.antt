@@ -5,25 +5,25 @@ use Rattle.grade.proofs.answers.answer_line.Goals as goal
 
 pub returns-then-bar-line : goal.returns-then-bar-line
 returns-then-bar-line c =
-    let first = c.as-slice.ensures.value ∙ c.in-ok-first.ensures in
-    let second = c.as-slice-then-bar-line.ensures.value ∙ c.in-ok-second.ensures in
+    let first = c.as_slice.ensures.value ∙ c.in_ok-first.ensures in
+    let second = c.as_slice-then-bar-line.ensures.value ∙ c.in_ok-second.ensures in
     c.or_refused.ensures
-    ∙ ap or_refused c.answer-two.ensures
-    ∙ answer_of_two c.args.line.now c.bar-of-bar.result c.as-slice.result.now c.as-slice-then-bar-line.result.now c.bar-of-bar.ensures c.if-bar-line.true first second
+    ∙ ap or_refused c.answer_two.ensures
+    ∙ answer_of_two c.args.line.now c.bar_of-bar.result c.as_slice.result.now c.as_slice-then-bar-line.result.now c.bar_of-bar.ensures c.if-bar-line.true first second
 
-pub returns-then-is-empty : goal.returns-then-is-empty
-returns-then-is-empty c =
-    let cards = c.in-ok-cards.cards in
+pub returns-then-is_empty : goal.returns-then-is_empty
+returns-then-is_empty c =
+    let cards = c.in_ok-cards.cards in
     let long : vec_len cards ≡ length (vec_items cards) = cards.ok.0 in
-    answer_of_none c.args.line.now c.bar-of-bar.result (vec_items cards) c.bar-of-bar.ensures c.if-bar-line.false c.in-ok-cards.ensures
-    (ap (λ n. eqb n 0) (sym long) ∙ sym c.if-is-empty.ensures)
+    answer_of_none c.args.line.now c.bar_of-bar.result (vec_items cards) c.bar_of-bar.ensures c.if-bar-line.false c.in_ok-cards.ensures
+    (ap (λ n. eqb n 0) (sym long) ∙ sym c.if-is_empty.ensures)
 
 pub returns : goal.returns
 returns c =
-    let cards = c.in-ok-cards.cards in
-    let items = c.as-slice-2.result.now in
-    let long : length items ≡ vec_len cards = c.as-slice-2.ensures.len in
-    c.or-refused-2.ensures
-    ∙ ap or_refused c.answer-one.ensures
-    ∙ answer_of_one c.args.line.now c.bar-of-bar.result items c.bar-of-bar.ensures c.if-bar-line.false (c.as-slice-2.ensures.value ∙ c.in-ok-cards.ensures)
-    (ap (λ n. eqb n 0) long ∙ sym c.if-is-empty.ensures)
+    let cards = c.in_ok-cards.cards in
+    let items = c.as_slice-2.result.now in
+    let long : length items ≡ vec_len cards = c.as_slice-2.ensures.len in
+    c.or_refused-2.ensures
+    ∙ ap or_refused c.answer_one.ensures
+    ∙ answer_of_one c.args.line.now c.bar_of-bar.result items c.bar_of-bar.ensures c.if-bar-line.false (c.as_slice-2.ensures.value ∙ c.in_ok-cards.ensures)
+    (ap (λ n. eqb n 0) long ∙ sym c.if-is_empty.ensures)

@@ -23,12 +23,12 @@ returns-in-Some g c = record {
 pub loop-ended-smaller : goal.loop-ended-smaller
 loop-ended-smaller g c =
     nearer _ c.args.sheet.now c.requires.short c.loop-ended.table.books c.loop-ended.place.at c.loop-ended.ledger c.loop-ended.notes
-    c.step.new.table.books c.step.new.place.at c.step.new.ledger c.step.new.notes c.in-default.ensures.stepped
+    c.step.new.table.books c.step.new.place.at c.step.new.ledger c.step.new.notes c.in_default.ensures.stepped
 
 pub loop-ended-preserved : goal.loop-ended-preserved
 loop-ended-preserved g c = (
-  c.in-default.ensures.game ∙ c.loop-ended.invariant.0,
+  c.in_default.ensures.game ∙ c.loop-ended.invariant.0,
   on_again g.G.Game.rules c.args.table.now.game c.args.sheet.now c.requires.short c.args.table.now.books c.args.place.now.at c.args.ledger.now c.args.notes.now
       c.loop-ended.table.game c.loop-ended.invariant.0 c.loop-ended.table.books c.loop-ended.place.at c.loop-ended.ledger c.loop-ended.notes
-      c.step.new.table.books c.step.new.place.at c.step.new.ledger c.step.new.notes c.loop-ended.invariant.1 c.in-default.ensures.stepped,
+      c.step.new.table.books c.step.new.place.at c.step.new.ledger c.step.new.notes c.loop-ended.invariant.1 c.in_default.ensures.stepped,
 )
