@@ -4,4 +4,4 @@ use Rattle.open_table.proofs.Summing.{closed}
 use Rattle.open_table.proofs.open_table.OpenTable.closing.Goals as goal
 
 pub returns : goal.returns
-returns c = closed c.args.self.now.table.books c.books.result.now c.books.ensures _ _ c.chips-in.ensures c.chips-in-2.ensures
+returns c = closed c.args.self.now.table.books c.books.result.now c.books.ensures _ _ c.chips_in.ensures c.chips_in-2.ensures

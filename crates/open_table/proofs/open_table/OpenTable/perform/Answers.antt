@@ -8,5 +8,5 @@ use Rattle.open_table.proofs.open_table.OpenTable.perform.Goals as goal
 pub perform-requires : goal.perform-requires
 perform-requires c = sound_had _ _ c.args.self.now.sound
 
-pub invariant-of-self : goal.invariant-of-self
-invariant-of-self c = (∣ subst (λ g. Sound (rules_of g) c.perform.new.self.books) (sym c.perform.ensures.game) c.perform.ensures.performed.sound ∣₁, tt)
+pub invariant_of-self : goal.invariant_of-self
+invariant_of-self c = record { sound = ∣ subst (λ g. Sound (rules_of g) c.perform.new.self.books) (sym c.perform.ensures.game) c.perform.ensures.performed.sound ∣₁ }

@@ -7,5 +7,5 @@ use Rattle.open_table.proofs.open_table.OpenTable.run.Goals as goal
 pub run-requires : goal.run-requires
 run-requires c = sound_had _ _ c.args.self.now.sound
 
-pub invariant-of-self : goal.invariant-of-self
-invariant-of-self c = (∣ kept_sound rules_of _ _ _ _ _ _ _ c.run.result _ _ _ _ (sound_had _ _ c.args.self.now.sound) c.run.ensures.answered c.run.ensures.game ∣₁, tt)
+pub invariant_of-self : goal.invariant_of-self
+invariant_of-self c = record { sound = ∣ kept_sound rules_of _ _ _ _ _ _ _ c.run.result _ _ _ _ (sound_had _ _ c.args.self.now.sound) c.run.ensures.answered c.run.ensures.game ∣₁ }

@@ -9,5 +9,5 @@ returns c =
     let s = sound_had _ _ c.args.self.now.sound in
     let few = seats_few _ _ s in
     let told = c.sum.ensures ∙ views_summed c.args.part _ s.seven few _ _ _ _ _ _ _
-    c.view-at.ensures c.view-at-2.ensures c.view-at-3.ensures c.view-at-4.ensures c.view-at-5.ensures c.view-at-6.ensures c.view-at-7.ensures in
+    c.view_at.ensures c.view_at-2.ensures c.view_at-3.ensures c.view_at-4.ensures c.view_at-5.ensures c.view_at-6.ensures c.view_at-7.ensures in
     record { summed = told; exact = told ∙ seats_exact c.args.part _ s.seven few }

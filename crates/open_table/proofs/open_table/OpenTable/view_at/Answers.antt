@@ -4,5 +4,5 @@ use Rattle.table.proofs.Single.{sound_had}
 use Rattle.open_table.proofs.Summing.{viewed}
 use Rattle.open_table.proofs.open_table.OpenTable.view_at.Goals as goal
 
-pub view-of-requires : goal.view-of-requires
-view-of-requires c = viewed _ c.args.self.now.table.books c.books.result.now c.books.ensures c.args.k c.requires (sound_had _ _ c.args.self.now.sound)
+pub view_of-requires : goal.view_of-requires
+view_of-requires c = viewed _ c.args.self.now.table.books c.books.result.now c.books.ensures c.args.k c.requires (sound_had _ _ c.args.self.now.sound)
