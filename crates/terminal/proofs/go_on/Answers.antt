@@ -5,8 +5,8 @@ use Rattle.terminal.proofs.go_on.Goals as goal
 pub loop-ended-init : goal.loop-ended-init
 loop-ended-init c = (c.requires.ready, going_starts _ _ _ _ _)
 
-pub next-run-requires : goal.next-run-requires
-next-run-requires c = record { short = c.requires.short; ready = c.loop-ended.invariant.0 }
+pub next_run-requires : goal.next_run-requires
+next_run-requires c = record { short = c.requires.short; ready = c.loop-ended.invariant.0 }
 
 pub loop-ended-smaller : goal.loop-ended-smaller
 loop-ended-smaller c = ?
