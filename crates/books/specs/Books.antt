@@ -1,6 +1,5 @@
 -- The books of a table, and what moving chips does to them.
 use Rattle.std.specs.Prelude.{ℕ, ◌+◌, ◌-◌, Bool, List, [], ◌∷◌, ◌++◌, length, take, replicate, sum, slice_index_or, slice_set}
-use Rattle.game.specs.declared.choice.Choice.{Choice}
 use Rattle.game.specs.declared.choice.Choice.TheVariants.{Open}
 use Rattle.game.specs.Rules.{Deal, deal}
 use Rattle.books.specs.declared.seat.Seat.{Seat}

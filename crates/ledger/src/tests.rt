@@ -38,7 +38,7 @@ fn a_full_roll_refuses(rt: HostRuntime) -> Result<(), Fail> {
     assert_eq!(rt; roll.free(), 0);
     assert_eq!(rt; roll.count_of(4), 1);
     assert_eq!(rt; roll.count_of(5), 0);
-    assert_eq!(rt; roll.records(), &[first, second]);
+    assert_eq!(rt; roll.records(), [first, second].as_slice());
     assert_eq!(rt; sum_by_net(roll.records()), Ok(-75));
     roll.clear();
     assert_eq!(rt; roll.free(), 2);

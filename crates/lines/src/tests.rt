@@ -27,7 +27,7 @@ fn lines_are_printed(rt: HostRuntime) -> Result<(), Fail> {
     end.print(&mut page)?;
     assert_eq!(rt;
         page.as_slice(),
-        b"E 4294967295 255 18446744073709551615 0 -9223372036854775808\nX 53 5 1 table\nZ 99900 1100 0\n"
+        b"E 4294967295 255 18446744073709551615 0 -9223372036854775808\nX 53 5 1 table\nZ 99900 1100 0\n".as_slice()
     );
     Ok(())
 }

@@ -1,5 +1,5 @@
 -- A table that the first command opened, once the sheet was run on it.
-use Rattle.std.proofs.Common.{◌≡◌, ℕ, ◌+◌, ◌<◌, List, [], length, Ok, sym, subst, arith}
+use Rattle.std.proofs.Common.{ℕ, ◌+◌, ◌<◌, List, [], length, Ok, sym, subst, arith}
 use Rattle.commands.specs.Calls.{Open}
 use Rattle.game.specs.Rules.{Rules}
 use Rattle.games.specs.Opening.{Opens}

@@ -1,9 +1,8 @@
 -- A sheet from its first byte through its first run: the whole promise, from opening through the list of the sheet's commands.
-use Rattle.std.specs.Prelude.{◌≡◌, ℕ, ◌+◌, List, [], Some, None, Ok, Err, Option, Result}
+use Rattle.std.specs.Prelude.{◌≡◌, ℕ, ◌+◌, List, [], Some, None, Ok}
 use Rattle.refusals.specs.Refusals.{first_cause}
 use Rattle.commands.specs.declared.Conditions.{Conditions}
 use Rattle.commands.specs.Calls.{Open}
-use Rattle.game.specs.Rules.{Rules}
 use Rattle.games.specs.Opening.{Opens}
 use Rattle.ledger.specs.declared.entries.Entry.{Entry}
 use Rattle.ledger.specs.declared.notes.Note.{Note}

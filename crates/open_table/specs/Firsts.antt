@@ -5,7 +5,6 @@ use Rattle.refusals.specs.declared.Refusal.{Refusal}
 use Rattle.refusals.specs.Refusals.{first_cause, refused}
 use Rattle.commands.specs.declared.Conditions.{Conditions}
 use Rattle.commands.specs.Calls.{Call, Open, Buy, Cash, Fill, Draw, Bet, Deal, Raise, Leave, Settle, Void}
-use Rattle.ledger.specs.declared.notes.Note.{Note}
 use Rattle.sheet.specs.Format.{width_of}
 use Rattle.sheet.specs.Reading.{read_at}
 use Rattle.table.specs.Opening.{refused_by}

@@ -1,5 +1,5 @@
 -- What the calls of an open table answer and leave.
-use Rattle.std.specs.Prelude.{◌≡◌, ℕ, Bool, not, ◌||◌, List, [], ◌∷◌, Some, None, Ok, Err, Option, Result, nat_lt}
+use Rattle.std.specs.Prelude.{◌≡◌, ℕ, Bool, not, ◌||◌, List, [], ◌∷◌, Some, None, Ok, Err, Result, nat_lt}
 use Rattle.refusals.specs.declared.Cause.{Cause}
 use Rattle.refusals.specs.declared.Cause.TheVariants.{TotalTooLarge, BadConditions}
 use Rattle.refusals.specs.declared.Refusal.{Refusal}

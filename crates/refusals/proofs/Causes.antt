@@ -1,8 +1,8 @@
 -- Where no cause of a list answers, none of its conditions holds; where the causes stand in turn, the first that holds is the least.
-use Rattle.std.proofs.Common.{◌≡◌, ℕ, ◌≤◌, Bool, true, false, cond, ◌&&◌, leb, ◌⊎◌, List, [], ◌∷◌, Some, None, Option, sym, refl, ap, ◌∙◌, inl, inr, ⊎_elim, arith}
+use Rattle.std.proofs.Common.{◌≡◌, ℕ, ◌≤◌, Bool, true, false, leb, List, [], ◌∷◌, Some, None, Option, refl, ap, inl, inr, ⊎_elim, arith}
 use Rattle.std.proofs.lemmas.Bool.{false≢true, and_parts, leb-true}
 use Rattle.refusals.specs.declared.Cause.{Cause}
-use Rattle.refusals.specs.Refusals.{first_cause, turn_of, Holds, Least, Answers, in_turn}
+use Rattle.refusals.specs.Refusals.{first_cause, turn_of, Holds, Answers, in_turn}
 
 -- each condition of a list fails
 abbrev pub NoneHolds : List (Bool × Cause) → Type 0

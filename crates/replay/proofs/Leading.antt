@@ -1,5 +1,5 @@
 -- A history leads on by one call, whose ledger has so many free places.
-use Rattle.std.proofs.Common.{◌≡◌, ℕ, ◌+◌, ◌<◌, ◌≤◌, min, List, [], ◌∷◌, ◌++◌, map, length, get_or, take, is_ok, Result, sym, refl, ap, ◌∙◌, subst, append_assoc, arith, length-take}
+use Rattle.std.proofs.Common.{◌≡◌, ℕ, ◌+◌, ◌<◌, ◌≤◌, min, List, [], ◌∷◌, ◌++◌, map, length, get_or, take, is_ok, Result, sym, ap, ◌∙◌, subst, arith, length-take}
 use Rattle.std.proofs.lemmas.List.{map-append, take_more, take_all}
 use Rattle.refusals.specs.declared.Refusal.{Refusal}
 use Rattle.commands.specs.Calls.{Call, call_of}
@@ -10,7 +10,6 @@ use Rattle.ledger.specs.Rolls.{kept, places, free}
 use Rattle.books.specs.declared.table_books.Books.{Books}
 use Rattle.table.specs.Performing.{Performed}
 use Rattle.table.specs.Promise.{Reached}
-use Rattle.table.specs.Soundness.{Sound}
 use Rattle.table.specs.Tally.{Turn, turn}
 use Rattle.replay.specs.declared.Request.{Request}
 use Rattle.replay.specs.Histories.{OneMore, Played}

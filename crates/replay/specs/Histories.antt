@@ -1,7 +1,6 @@
 -- A whole history: opening a table, and then a list of calls, each handed a ledger of its own size.
-use Rattle.std.specs.Prelude.{◌≡◌, ℕ, min, Bool, List, [], ◌∷◌, ◌++◌, map, length, Ok, Err, Result}
+use Rattle.std.specs.Prelude.{◌≡◌, ℕ, min, Bool, List, [], ◌∷◌, ◌++◌, map, Ok, Err, Result}
 use Rattle.refusals.specs.declared.Refusal.{Refusal}
-use Rattle.refusals.specs.Refusals.{first_cause}
 use Rattle.commands.specs.Calls.{Call, call_of}
 use Rattle.game.specs.Rules.{Rules}
 use Rattle.books.specs.declared.table_books.Books.{Books}

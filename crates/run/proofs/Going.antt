@@ -1,5 +1,5 @@
 -- A run as it goes on from command to command.
-use Rattle.std.proofs.Common.{◌≡◌, ℕ, ◌+◌, ◌-◌, ◌<◌, ◌≤◌, Bool, true, false, cond, ◌||◌, eqb, ltb, List, [], ◌∷◌, ◌++◌, map, length, is_ok, Some, None, Ok, Err, Option, Result, sym, refl, ap, ◌∙◌, subst, append_assoc, arith, length-append}
+use Rattle.std.proofs.Common.{◌≡◌, ℕ, ◌+◌, ◌-◌, ◌<◌, ◌≤◌, true, false, cond, eqb, ltb, List, [], ◌∷◌, ◌++◌, map, length, is_ok, Some, None, Ok, Err, Option, Result, sym, refl, ap, ◌∙◌, subst, append_assoc, arith, length-append}
 use Rattle.std.proofs.lemmas.List.{append-nil, map-append}
 use Rattle.std.proofs.lemmas.Bool.{ltb-false, or_parts}
 use Rattle.refusals.specs.declared.Refusal.{Refusal}
@@ -8,7 +8,7 @@ use Rattle.game.specs.Rules.{Rules}
 use Rattle.ledger.specs.declared.entries.Entry.{Entry}
 use Rattle.ledger.specs.declared.notes.Note.{Note}
 use Rattle.ledger.specs.declared.rolls.Roll.{Roll}
-use Rattle.ledger.specs.Rolls.{kept, places, free, Written}
+use Rattle.ledger.specs.Rolls.{kept, free, Written}
 use Rattle.ledger.proofs.Writing.{written_none, written_then}
 use Rattle.books.specs.declared.table_books.Books.{Books}
 use Rattle.sheet.specs.Format.{width_of}
@@ -25,8 +25,8 @@ use Rattle.table.specs.Tally.{Turn, turn}
 use Rattle.run.specs.declared.ended.Ended.{Ended}
 use Rattle.run.specs.declared.ended.Ended.TheVariants.{SheetEnd, Unreadable, NoRoom}
 use Rattle.run.specs.Meaning.{note_of, noted, most_entries, Told, quiet, and_then, told}
-use Rattle.run.specs.Runs.{State, start, no_room, performed, unread, runs, run_of, to_come, Still, Ran}
-use Rattle.run.specs.Steps.{Moved, Stuck, Stepped}
+use Rattle.run.specs.Runs.{State, no_room, performed, unread, runs, run_of, to_come, Still, Ran}
+use Rattle.run.specs.Steps.{Moved, Stepped}
 use Rattle.run.proofs.Enough.{verdict_enough}
 
 -- what is free once records were written

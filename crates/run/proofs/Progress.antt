@@ -1,11 +1,11 @@
 -- A run that has room for its first command and stops for want of room has moved its place.
-use Rattle.std.proofs.Common.{◌≡◌, ℕ, zero, suc, ◌+◌, ◌-◌, ◌<◌, ◌≤◌, Bool, true, false, cond, List, [], ◌∷◌, length, Some, None, Ok, Err, Option, Result, sym, refl, ap, ◌∙◌, subst, arith}
+use Rattle.std.proofs.Common.{◌≡◌, ℕ, zero, suc, ◌+◌, ◌-◌, ◌<◌, ◌≤◌, Bool, true, false, cond, List, [], length, Some, None, Ok, Err, Option, Result, sym, refl, ap, ◌∙◌, arith}
 use Rattle.refusals.specs.declared.Refusal.{Refusal}
 use Rattle.commands.specs.Calls.{Call}
 use Rattle.game.specs.Rules.{Rules}
 use Rattle.books.specs.declared.table_books.Books.{Books}
 use Rattle.sheet.specs.Format.{width_of}
-use Rattle.sheet.specs.Items.{Item, command, fault, item_and, items, items_of}
+use Rattle.sheet.specs.Items.{item_and, items, items_of}
 use Rattle.sheet.specs.Reading.{longest, read_at}
 use Rattle.sheet.proofs.Items.{items_step, read_within, width_some}
 use Rattle.table.specs.Calls.{either}

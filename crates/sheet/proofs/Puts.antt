@@ -1,11 +1,10 @@
 -- Bytes that are a call's are put as the call is written.
-use Rattle.std.proofs.Common.{◌≡◌, ℕ, ◌+◌, Bool, true, false, cond, ltb, List, [], ◌∷◌, length, Ok, Err, Result, sym, refl, ap, ◌∙◌}
-use Rattle.refusals.specs.declared.Cause.{Cause}
+use Rattle.std.proofs.Common.{◌≡◌, ℕ, ◌+◌, Bool, true, false, cond, ltb, List, [], ◌∷◌, length, Ok, Err, Result, refl, ap, ◌∙◌}
 use Rattle.refusals.specs.declared.Cause.TheVariants.{CutShort, BadDeal}
 use Rattle.refusals.specs.declared.Refusal.{Refusal}
 use Rattle.refusals.specs.Refusals.{first_cause, refused}
 use Rattle.commands.specs.Calls.{Call}
-use Rattle.sheet.specs.Format.{bytes_of, width_of}
+use Rattle.sheet.specs.Format.{width_of}
 use Rattle.sheet.specs.Reading.{unless}
 use Rattle.sheet.specs.Writing.{too_many, write_at}
 

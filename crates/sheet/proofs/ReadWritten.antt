@@ -1,5 +1,5 @@
 -- What was read is written as the same bytes.
-use Rattle.std.proofs.Common.{◌≡◌, ℕ, zero, suc, ◌+◌, ◌-◌, ◌<◌, ◌≤◌, Bool, true, false, cond, not, ◌&&◌, ◌||◌, eqb, ltb, leb, List, [], ◌∷◌, ◌++◌, length, get_or, take, drop, replicate, Some, None, Ok, Err, Option, sym, refl, ap, ◌∙◌, subst, append_assoc, arith, length-drop, length-take, ltb-false, eqb-true}
+use Rattle.std.proofs.Common.{◌≡◌, ℕ, ◌+◌, ◌-◌, ◌<◌, ◌≤◌, Bool, true, false, cond, not, eqb, ltb, leb, List, [], ◌∷◌, ◌++◌, length, get_or, take, drop, replicate, Some, None, Ok, Err, Option, sym, refl, ap, ◌∙◌, subst, arith, length-drop, ltb-false, eqb-true}
 use borrow.Author.Tests.{eqb-false}
 use Rattle.std.proofs.lemmas.List.{drop-drop, drop_more, get_or-drop, take-append-drop, length-take-le}
 use Rattle.std.proofs.lemmas.Bool.{and_parts, leb-false, or_parts}
@@ -7,8 +7,8 @@ use Rattle.refusals.specs.declared.Cause.{Cause}
 use Rattle.refusals.specs.declared.Cause.TheVariants.{SheetTooLong}
 use Rattle.refusals.specs.Refusals.{first_cause, refused}
 use Rattle.refusals.proofs.Causes.{none_holds}
-use Rattle.sheet.specs.Format.{width, width_of, bytes_of, in_bytes, odds_bytes}
-use Rattle.sheet.specs.Reading.{bytes_at, operand, conditions_in, row, all_zero, bad_deal, faults, call_in, unless, means, some_call, longest, read_at, SameBytes}
+use Rattle.sheet.specs.Format.{width, width_of, bytes_of, in_bytes}
+use Rattle.sheet.specs.Reading.{bytes_at, operand, row, all_zero, faults, call_in, unless, means, some_call, longest, read_at, SameBytes}
 use Rattle.sheet.proofs.Numbers.{Bytes, operand_bytes, bytes_then_rest}
 use Rattle.sheet.proofs.Widths.{by_first, width_in}
 

@@ -1,7 +1,7 @@
 -- The first bytes of commands: there are eleven, and each call is written with its own.
-use Rattle.std.proofs.Common.{◌≡◌, ℕ, zero, Bool, true, false, cond, eqb, List, get_or, sym, refl, ap, ◌∙◌, subst, ⊎_elim, arith}
+use Rattle.std.proofs.Common.{◌≡◌, ℕ, true, false, eqb, List, sym, refl, ap, ◌∙◌, subst, ⊎_elim, arith}
 use Rattle.std.proofs.lemmas.Bool.{cases_eq, ne_eqb}
-use Rattle.sheet.specs.Format.{width, width_of, bytes_of}
+use Rattle.sheet.specs.Format.{width, width_of}
 use Rattle.sheet.specs.Reading.{call_in}
 
 -- what holds of a number, where it holds of another and where the two differ

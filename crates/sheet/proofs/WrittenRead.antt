@@ -1,5 +1,5 @@
 -- What was written reads back as the same call.
-use Rattle.std.proofs.Common.{◌≡◌, ℕ, zero, suc, ◌+◌, ◌-◌, ◌^◌, ◌<◌, ◌≤◌, Bool, true, false, cond, not, ◌&&◌, ◌||◌, eqb, ltb, List, [], ◌∷◌, ◌++◌, length, get_or, take, drop, replicate, Some, None, Ok, Err, Option, Result, sym, refl, ap, ◌∙◌, subst, append_assoc, arith, length-append, ltb-false}
+use Rattle.std.proofs.Common.{◌≡◌, ℕ, zero, suc, ◌+◌, ◌-◌, ◌≤◌, true, false, ◌&&◌, eqb, ltb, List, [], ◌∷◌, ◌++◌, length, get_or, take, drop, replicate, Some, None, Ok, Err, Option, Result, sym, refl, ap, ◌∙◌, subst, arith, length-append, ltb-false}
 use lib.ListN.{length-replicate}
 use Rattle.std.proofs.lemmas.List.{take_at, take_rest, drop_at, drop-append-le, get_or_append_left, length-take-le}
 use Rattle.std.proofs.lemmas.Bool.{le-ltb}
@@ -9,8 +9,8 @@ use Rattle.refusals.specs.Refusals.{first_cause}
 use Rattle.refusals.proofs.Causes.{none_holds}
 use Rattle.commands.specs.declared.Conditions.{Conditions}
 use Rattle.commands.specs.Calls.{Call, Open, Buy, Cash, Fill, Draw, Bet, Deal, Raise, Leave, Settle, Void}
-use Rattle.sheet.specs.Format.{in_bytes, odds_bytes, bytes_of, width, width_of, ConditionsFit, FitsFormat}
-use Rattle.sheet.specs.Reading.{operand, conditions_in, row, all_zero, bad_deal, call_in, longest, means, read_at, some_call, unless}
+use Rattle.sheet.specs.Format.{bytes_of, width, width_of, ConditionsFit, FitsFormat}
+use Rattle.sheet.specs.Reading.{row, all_zero, bad_deal, call_in, longest, means, read_at, some_call, unless}
 use Rattle.sheet.specs.Writing.{too_many, write_faults, write_at, with_bytes, buffer_after, ReadsBack}
 use Rattle.sheet.proofs.Places.{read_of}
 use Rattle.sheet.proofs.Numbers.{number_in_bytes}

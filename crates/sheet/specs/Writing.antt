@@ -1,11 +1,11 @@
 -- What writing a command at a place of a buffer answers and leaves.
-use Rattle.std.specs.Prelude.{◌≡◌, ℕ, ◌+◌, ◌≤◌, Bool, false, cond, List, [], ◌∷◌, ◌++◌, length, take, drop, Some, None, Ok, Err, Option, Result, nat_lt}
+use Rattle.std.specs.Prelude.{◌≡◌, ℕ, ◌+◌, ◌≤◌, Bool, false, List, [], ◌∷◌, ◌++◌, length, take, drop, Some, Ok, Err, Result, nat_lt}
 use Rattle.refusals.specs.declared.Cause.{Cause}
 use Rattle.refusals.specs.declared.Cause.TheVariants.{CutShort, BadDeal}
 use Rattle.refusals.specs.declared.Refusal.{Refusal}
-use Rattle.refusals.specs.Refusals.{first_cause, refused}
+use Rattle.refusals.specs.Refusals.{first_cause}
 use Rattle.commands.specs.Calls.{Call, Open, Buy, Cash, Fill, Draw, Bet, Deal, Raise, Leave, Settle, Void}
-use Rattle.sheet.specs.Format.{bytes_of, width_of}
+use Rattle.sheet.specs.Format.{width_of}
 use Rattle.sheet.specs.Reading.{longest, read_at, unless}
 
 -- a Deal of more than forty cards cannot be written

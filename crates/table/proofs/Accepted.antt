@@ -1,6 +1,5 @@
 -- What an accepted call has shown, and that it keeps the table sound.
-use Rattle.std.proofs.Common.{◌≡◌, ℕ, zero, suc, ◌+◌, ◌-◌, ◌<◌, ◌≤◌, Bool, true, false, cond, not, ◌&&◌, ◌||◌, eqb, ltb, leb, ◌⊎◌, List, [], ◌∷◌, ◌++◌, map, length, get_or, take, set, replicate, Some, None, Ok, Err, sum_by, sum, Option, Result, sym, refl, ap, ◌∙◌, subst, inl, inr, ⊎_elim, arith, length-append, length-set}
-use lib.ListN.{length-replicate}
+use Rattle.std.proofs.Common.{◌≡◌, ℕ, ◌+◌, ◌-◌, ◌<◌, ◌≤◌, true, false, eqb, ltb, List, length, get_or, set, replicate, Some, None, Ok, Err, sum, Option, Result, sym, refl, ap, ◌∙◌, subst, ⊎_elim, arith, length-append, length-set}
 use Rattle.std.proofs.lemmas.List.{get_or-set_same, get_or-set_other, take_at}
 use Rattle.std.proofs.lemmas.List.Sums.{sum_by-set}
 use Rattle.std.proofs.lemmas.Bool.{cases_eq, true≢false, false≢true, leb-false, ltb-false, eqb-true, eqb-false, or_parts, and_parts, and_cases, not-false, both_ways}
@@ -13,22 +12,20 @@ use Rattle.game.specs.declared.choice.Choice.{Choice}
 use Rattle.game.specs.declared.choice.Choice.TheVariants.{Open as open_choice, Raised, Left}
 use Rattle.game.specs.declared.dealing.Dealing.{Dealing}
 use Rattle.game.specs.declared.dealing.Dealing.TheVariants.{Lawful, NoCard, WrongCount}
-use Rattle.game.specs.Rules as game
 use Rattle.game.specs.Rules.{Rules, Facts, Small, Fair, added, deal}
 use Rattle.books.specs.declared.seat.Seat.{Seat}
-use Rattle.books.specs.declared.stage.Round.{Round}
 use Rattle.books.specs.declared.stage.Stage.{Stage}
 use Rattle.books.specs.declared.stage.Stage.TheVariants.{Betting, Dealt}
 use Rattle.books.specs.declared.table_books.Books.{Books}
-use Rattle.books.specs.Books.{nobody, seat_at, laid, chips, deal_of, round_of, with_seat, with_tray, with_rack, with_stage}
+use Rattle.books.specs.Books.{nobody, seat_at, deal_of, round_of, with_seat, with_tray, with_rack, with_stage}
 use Rattle.table.specs.Causes.{with_bet, causes, refusal, judged, verdict, is_strange, is_miscounted}
-use Rattle.table.specs.Effects.{with_raise, with_leave, with_round, settled_in, voided, after}
+use Rattle.table.specs.Effects.{with_raise, with_leave, settled_in, voided, after}
 use Rattle.table.specs.Calls.{Did}
 use Rattle.table.specs.Holdings.{limit, most_rounds, total, ceilings, staking, is_open, due, missing, is_betting, bad_seat, bad_space}
 use Rattle.table.specs.Soundness.{Chosen, SeatSound, StageSound, Sound}
 use Rattle.table.proofs.Ended.{settled_is, voided_is}
 use Rattle.table.proofs.Keep.{each_set, may_all, settle_all, void_all}
-use Rattle.table.proofs.Totals.{chips_within, total_set, ceil, ceilings_set, ceil_within}
+use Rattle.table.proofs.Totals.{total_set, ceilings_set}
 
 -- where a call is accepted, none of its causes holds
 ok_none : (o : Option Cause) (f : Cause → Refusal) → Ok tt ≡ judged o f → o ≡ None

@@ -1,15 +1,14 @@
 -- Seven seats ended one by one are all seats ended at once.
-use Rattle.std.proofs.Common.{◌≡◌, ℕ, zero, suc, ◌+◌, ◌-◌, ◌<◌, ◌≤◌, List, [], ◌∷◌, map, length, get_or, sum_by, sum, sym, refl, ap, ◌∙◌, subst, arith}
+use Rattle.std.proofs.Common.{◌≡◌, ℕ, ◌+◌, ◌-◌, ◌<◌, List, [], ◌∷◌, map, length, get_or, sum_by, sum, refl, ap, ◌∙◌, arith}
 use Rattle.std.specs.List.{AllByRecursion as All}
 use Rattle.game.specs.Rules.{Rules, Facts}
 use Rattle.books.specs.declared.seat.Seat.{Seat}
 use Rattle.books.specs.declared.stage.Round.{Round}
-use Rattle.books.specs.declared.stage.Stage.{Stage}
 use Rattle.books.specs.declared.stage.Stage.TheVariants.{Betting, Dealt}
 use Rattle.books.specs.declared.table_books.Books.{Books}
-use Rattle.books.specs.Books.{nobody, seat_at, laid, chips, cleared, deal_of, with_stage}
+use Rattle.books.specs.Books.{nobody, seat_at, laid, chips, deal_of, with_stage}
 use Rattle.table.specs.Effects.{return_to, settled, voided}
-use Rattle.table.specs.Holdings.{total, every}
+use Rattle.table.specs.Holdings.{every}
 use Rattle.table.specs.Soundness.{Sound}
 use Rattle.table.specs.Steps.{settle_to, void_to, May}
 use Rattle.table.proofs.Keep.{Ended, settle_all, void_all}

@@ -1,24 +1,22 @@
 -- Sound books stay sound while a round is ended seat by seat, and what that makes of them.
-use Rattle.std.proofs.Common.{◌≡◌, ℕ, zero, suc, ◌+◌, ◌-◌, ◌<◌, ◌≤◌, Bool, true, false, cond, not, ◌&&◌, eqb, ltb, ◌⊎◌, List, [], ◌∷◌, map, length, get_or, set, replicate, sum_by, sum, sym, refl, ap, ◌∙◌, subst, inl, inr, ⊎_elim, arith, length-set}
-use Rattle.std.proofs.lemmas.List.{get_or-set_same, get_or-set_other, set-set}
+use Rattle.std.proofs.Common.{◌≡◌, ℕ, zero, suc, ◌+◌, ◌-◌, ◌<◌, ◌≤◌, Bool, true, false, cond, ◌&&◌, List, [], ◌∷◌, length, get_or, set, replicate, sum, sym, refl, ap, ◌∙◌, subst, ⊎_elim, arith, length-set}
+use Rattle.std.proofs.lemmas.List.{get_or-set_same, get_or-set_other}
 use Rattle.std.proofs.lemmas.List.Sums.{sum_by-set, sum_by-cons, get_or-le-sum_by}
-use Rattle.std.proofs.lemmas.Bool.{cases_eq, ltb-false, not-false, eqb-true}
+use Rattle.std.proofs.lemmas.Bool.{cases_eq, ltb-false}
 use Rattle.game.specs.declared.choice.Choice.{Choice}
 use Rattle.game.specs.declared.choice.Choice.TheVariants.{Open, Raised, Left}
-use Rattle.game.specs.Rules as game
 use Rattle.game.specs.Rules.{Rules, Facts, Small, Allowed, Fair, added}
 use Rattle.books.specs.declared.seat.Seat.{Seat}
 use Rattle.books.specs.declared.stage.Round.{Round}
-use Rattle.books.specs.declared.stage.Stage.{Stage}
-use Rattle.books.specs.declared.stage.Stage.TheVariants.{Betting, Dealt}
+use Rattle.books.specs.declared.stage.Stage.TheVariants.{Dealt}
 use Rattle.books.specs.declared.table_books.Books.{Books}
-use Rattle.books.specs.Books.{empty, nobody, seat_at, laid, chips, cleared, lifted, unchosen, with_rack, with_tray, with_seat, lifted_at, placed_back, collected, paid, deal_of}
+use Rattle.books.specs.Books.{empty, nobody, seat_at, laid, chips, cleared, unchosen, with_tray, with_seat, deal_of}
 use Rattle.table.specs.Effects.{return_to}
-use Rattle.table.specs.Holdings.{limit, most_rounds, total, ceilings, every, does_stake, is_open, due, first_seat, missing}
+use Rattle.table.specs.Holdings.{limit, total, every, does_stake, is_open, due, first_seat, missing}
 use Rattle.table.specs.Soundness.{Chosen, SeatSound, StageSound, Sound}
 use Rattle.table.specs.Steps.{settle_seat, settle_to, void_seat, void_to, May}
-use Rattle.table.proofs.Seats.{seven, added_small}
-use Rattle.table.proofs.Totals.{chips_within, total_set, ceil, ceilings_set, ceil_within}
+use Rattle.table.proofs.Seats.{seven}
+use Rattle.table.proofs.Totals.{ceil, ceilings_set, ceil_within}
 
 -- a list of sum 0 is all zeros
 zeros : (xs : List ℕ) → sum xs ≡ 0 → xs ≡ replicate (length xs) 0

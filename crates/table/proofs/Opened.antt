@@ -1,13 +1,11 @@
 -- A newly opened table is sound, and the empty history leads to it.
-use Rattle.std.proofs.Common.{◌≡◌, ℕ, ◌+◌, ◌<◌, ◌≤◌, Bool, true, false, cond, ◌||◌, eqb, ltb, List, [], ◌∷◌, pos, None, sym, refl, ap, ◌∙◌, subst, arith}
+use Rattle.std.proofs.Common.{◌≡◌, ℕ, ◌≤◌, false, ◌||◌, eqb, ltb, [], refl, arith}
 use Rattle.std.proofs.lemmas.Bool.{ltb-false, eqb-false, or_parts}
 use Rattle.game.specs.Rules.{Rules, Facts}
 use Rattle.books.specs.Books.{empty, seat_at}
-use Rattle.refusals.specs.Refusals.{first_cause}
-use Rattle.refusals.proofs.Causes.{none_holds}
 use Rattle.table.specs.Holdings.{limit}
-use Rattle.table.specs.Opening.{bad_bounds, open_causes}
-use Rattle.table.specs.Promise.{empty_seat, opened, Agree, Tallied, none, Reached}
+use Rattle.table.specs.Opening.{bad_bounds}
+use Rattle.table.specs.Promise.{empty_seat, opened, Agree, none, Reached}
 use Rattle.table.specs.Soundness.{SeatSound, Sound}
 use Rattle.table.specs.Tally.{start}
 use Rattle.table.proofs.Keep.{empty_small}

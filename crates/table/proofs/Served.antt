@@ -1,22 +1,18 @@
 -- Serving a seat settles it, and what serving asks holds of sound books.
-use Rattle.std.proofs.Common.{◌≡◌, ℕ, ◌+◌, ◌-◌, ◌^◌, ◌<◌, ◌≤◌, Bool, true, false, cond, ltb, List, [], ◌∷◌, length, get_or, set, sum, sym, refl, ap, ◌∙◌, subst, arith, length-set}
+use Rattle.std.proofs.Common.{◌≡◌, ℕ, ◌+◌, ◌-◌, ◌<◌, ◌≤◌, true, false, length, set, sum, ap, ◌∙◌, arith, length-set}
 use Rattle.std.proofs.lemmas.List.{get_or-set_same, set-set}
-use Rattle.std.proofs.lemmas.Bool.{ltb-true, ltb-false}
-use Rattle.game.specs.declared.choice.Choice.TheVariants.{Open}
-use Rattle.game.specs.Rules as game
+use Rattle.std.proofs.lemmas.Bool.{ltb-true}
 use Rattle.game.specs.Rules.{Rules, Facts}
-use Rattle.books.specs.declared.seat.Seat.{Seat}
 use Rattle.books.specs.declared.stage.Round.{Round}
 use Rattle.books.specs.declared.stage.Stage.TheVariants.{Dealt}
 use Rattle.books.specs.declared.table_books.Books.{Books}
-use Rattle.books.specs.Books.{nobody, seat_at, laid, chips, cleared, lifted, unchosen, with_rack, with_tray, with_seat, lifted_at, placed_back, collected, paid, deal_of}
+use Rattle.books.specs.Books.{nobody, seat_at, laid, cleared, lifted, unchosen, with_rack, with_tray, with_seat, lifted_at, placed_back, collected, paid, deal_of}
 use Rattle.table.specs.Effects.{return_to}
-use Rattle.table.specs.Holdings.{limit, total, does_stake}
-use Rattle.table.specs.Soundness.{SeatSound, Sound}
+use Rattle.table.specs.Holdings.{limit, does_stake}
+use Rattle.table.specs.Soundness.{Sound}
 use Rattle.table.specs.Steps.{settle_seat, void_seat, May}
 use Rattle.table.proofs.Keep.{return_covered, idle_nothing, idle_laid, idle_cleared}
-use Rattle.table.proofs.Seats.{raised_small}
-use Rattle.table.proofs.Totals.{chips_within, ceil, ceil_within}
+use Rattle.table.proofs.Totals.{chips_within, ceil_within}
 
 module _ (b : Books) (k : ℕ) (seven : length b.seats ≡ 7) (lt : k < 7) where
   within : k < length b.seats

@@ -1,5 +1,5 @@
 -- A round as it is settled seat by seat: the books, and the ledger.
-use Rattle.std.proofs.Common.{◌≡◌, ℕ, zero, suc, ◌+◌, ◌-◌, ◌<◌, ◌≤◌, Bool, true, false, cond, not, eqb, ltb, List, [], ◌∷◌, ◌++◌, map, length, get_or, take, drop, Ok, Err, sum_by, sum, filter, Result, sym, refl, ap, ◌∙◌, subst, add-one, arith, length-append, length-take}
+use Rattle.std.proofs.Common.{◌≡◌, ℕ, ◌+◌, ◌<◌, ◌≤◌, Bool, true, false, cond, eqb, ltb, List, [], ◌∷◌, ◌++◌, map, length, get_or, take, drop, Ok, Err, sum_by, filter, sym, refl, ap, ◌∙◌, subst, add-one, arith, length-append, length-take}
 use Rattle.std.proofs.lemmas.List.Elements.{filter_more}
 use Rattle.std.proofs.lemmas.List.Sums.{sum_by-drop_more}
 use Rattle.std.proofs.lemmas.Bool.{le-ltb, eq-eqb, ne_eqb}
@@ -13,20 +13,18 @@ use Rattle.ledger.specs.declared.entries.Entry.{Entry}
 use Rattle.ledger.specs.declared.rolls.Roll.{Roll}
 use Rattle.ledger.specs.Rolls.{kept, places, free, Written}
 use Rattle.ledger.proofs.Writing.{written_none, written_then}
-use Rattle.books.specs.declared.seat.Seat.{Seat}
 use Rattle.books.specs.declared.stage.Round.{Round}
-use Rattle.books.specs.declared.stage.Stage.{Stage}
 use Rattle.books.specs.declared.stage.Stage.TheVariants.{Betting, Dealt}
 use Rattle.books.specs.declared.table_books.Books.{Books}
 use Rattle.books.specs.Books.{seat_at, deal_of, with_stage}
 use Rattle.table.specs.Calls.{Did}
-use Rattle.table.specs.Effects.{settled_in, voided}
+use Rattle.table.specs.Effects.{settled_in}
 use Rattle.table.specs.Entries.{entry_of, entries_of, entries_in}
 use Rattle.table.specs.Holdings.{every, one_if, does_stake, stakers, missing}
 use Rattle.table.specs.Soundness.{Sound}
-use Rattle.table.specs.Steps.{settle_seat, settle_to, void_seat, void_to, entry_at, May}
-use Rattle.table.proofs.Ended.{settled_is, voided_is}
-use Rattle.table.proofs.Keep.{Ended, settle_all, void_all, may_all}
+use Rattle.table.specs.Steps.{settle_seat, settle_to, entry_at, May}
+use Rattle.table.proofs.Ended.{settled_is}
+use Rattle.table.proofs.Keep.{settle_all, may_all}
 use Rattle.table.proofs.Seats.{every_at}
 
 -- how many of some seats stake

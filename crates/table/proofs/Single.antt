@@ -1,5 +1,5 @@
 -- Being sound has one proof at most, so that it comes out of a type's invariant again.
-use Rattle.std.proofs.Common.{◌≡◌, ℕ, ◌<◌, ◌≤◌, List, length, get_or}
+use Rattle.std.proofs.Common.{◌≡◌, ℕ, ◌<◌, ◌≤◌, List, get_or}
 use std.HLevel.{Π_prop}
 use std.Logic.{∥∥₁_elim}
 use denote.Struct.Props.{props}

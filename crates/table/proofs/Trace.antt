@@ -1,11 +1,10 @@
 -- What the tally says of any run: one more call keeps it.
-use Rattle.std.proofs.Common.{◌≡◌, ℕ, zero, suc, ◌+◌, ◌-◌, ◌<◌, ◌≤◌, Bool, true, false, cond, not, ◌&&◌, eqb, ltb, leb, ◌⊎◌, List, [], ◌∷◌, ◌++◌, map, length, get_or, take, set, replicate, ℤ, pos, ◌+ℤ◌, ◌-ℤ◌, is_ok, Some, None, Ok, Err, fold, sum_by, sum, Option, Result, sym, refl, ap, ◌∙◌, subst, inl, inr, ⊎_elim, arith}
+use Rattle.std.proofs.Common.{◌≡◌, ℕ, ◌+◌, ◌-◌, ◌<◌, ◌≤◌, Bool, true, false, cond, not, ◌&&◌, eqb, ltb, leb, List, [], ◌∷◌, ◌++◌, map, length, get_or, take, set, replicate, is_ok, Some, None, Ok, Err, sum, Option, Result, sym, refl, ap, ◌∙◌, subst, ⊎_elim, arith}
 use Rattle.std.proofs.lemmas.List.{get_or-set_same, get_or-set_other, take-append-le, take_at, get_or_append_left, get_or_at, length-append}
 use Rattle.std.proofs.lemmas.Int.{ints}
 use Rattle.std.proofs.lemmas.List.Sums.{sum_by_push, fold_push}
-use Rattle.std.proofs.lemmas.Bool.{cases_eq, cases_lt, true≢false, false≢true, ltb-false, eq-eqb, ne_eqb, eqb-true, and_parts, not-false}
+use Rattle.std.proofs.lemmas.Bool.{cases_eq, cases_lt, true≢false, ltb-false, eq-eqb, ne_eqb, eqb-true, and_parts, not-false}
 use Rattle.std.proofs.lemmas.Bool.Decides.{nat_tests}
-use Rattle.refusals.specs.declared.Cause.{Cause}
 use Rattle.refusals.specs.declared.Cause.TheVariants.{WrongStage, ChoiceMissing, NoPlaceFree}
 use Rattle.refusals.specs.declared.Refusal.{Refusal}
 use Rattle.refusals.specs.Refusals.{first_cause}
@@ -20,14 +19,14 @@ use Rattle.books.specs.declared.stage.Round.{Round}
 use Rattle.books.specs.declared.stage.Stage.{Stage}
 use Rattle.books.specs.declared.stage.Stage.TheVariants.{Betting, Dealt}
 use Rattle.books.specs.declared.table_books.Books.{Books}
-use Rattle.books.specs.Books.{nobody, seat_at, laid, chips, deal_of, round_of, with_rack, with_stage}
+use Rattle.books.specs.Books.{nobody, seat_at, deal_of, with_rack}
 use Rattle.table.specs.Calls.{Did, either}
 use Rattle.table.specs.Causes.{with_bet, causes, refusal, judged, verdict}
 use Rattle.table.specs.Effects.{with_raise, with_leave, settled_in, voided, after, return_to}
 use Rattle.table.specs.Holdings.{total, ceilings, every, staking, does_stake, stakers, one_if, is_open, due, first_seat, missing, is_betting}
-use Rattle.table.specs.Promise.{Agree, Tallied, deal_on, Settles, Leads, none, one_more, Reached, opened}
+use Rattle.table.specs.Promise.{Agree, Tallied, deal_on, Settles, one_more, Reached}
 use Rattle.table.specs.Soundness.{Sound}
-use Rattle.table.specs.Tally.{Turn, turn, Slip, Tally, start, at, with_balance, with_stake, with_choice, cleared_slip, seats, is_staked, gain, settled_by, counted, noted, tally, brings, takes_away, brought, taken, is_unmade, is_awaited, is_dealt, none_of, is_ready, entries}
+use Rattle.table.specs.Tally.{Turn, turn, Slip, Tally, start, at, cleared_slip, seats, is_staked, settled_by, counted, noted, tally, brings, takes_away, brought, taken, is_unmade, is_awaited, is_dealt, none_of, entries}
 use Rattle.table.proofs.Accepted.{passed, seat_here, bet_shown, raise_shown, leave_shown, total_after_settle, total_after_void}
 use Rattle.table.proofs.Ended.{every_agree, settled_is, voided_is}
 use Rattle.table.proofs.Keep.{may_all, settle_all, void_all}

@@ -1,5 +1,5 @@
 -- A round as it is voided seat by seat.
-use Rattle.std.proofs.Common.{◌≡◌, ℕ, ◌+◌, ◌<◌, ◌≤◌, Ok, sym, refl, ap, ◌∙◌, subst, add-one, arith}
+use Rattle.std.proofs.Common.{◌≡◌, ℕ, ◌+◌, ◌<◌, Ok, sym, refl, ap, ◌∙◌, subst, add-one, arith}
 use Rattle.commands.specs.Calls.{Void}
 use Rattle.game.specs.Rules.{Rules, Facts}
 use Rattle.books.specs.declared.stage.Round.{Round}

@@ -1,5 +1,5 @@
 -- What a call answers and leaves, exactly: refused, nothing changes; accepted, the table and the ledger are as the call makes them.
-use Rattle.std.specs.Prelude.{◌≡◌, ℕ, List, [], Ok, Err, Result}
+use Rattle.std.specs.Prelude.{◌≡◌, ℕ, Ok, Err, Result}
 use Rattle.refusals.specs.declared.Refusal.{Refusal}
 use Rattle.commands.specs.Calls.{Call}
 use Rattle.game.specs.Rules.{Rules}

@@ -1,7 +1,6 @@
 -- What an accepted call does to the table.
-use Rattle.std.specs.Prelude.{ℕ, zero, suc, ◌+◌, ◌-◌, List, [], ◌∷◌, ◌++◌, map, sum}
+use Rattle.std.specs.Prelude.{ℕ, ◌+◌, ◌-◌, map, sum}
 use Rattle.commands.specs.Calls.{Call, Open, Buy, Cash, Fill, Draw, Bet, Deal, Raise, Leave, Settle, Void}
-use Rattle.game.specs.declared.choice.Choice.{Choice}
 use Rattle.game.specs.declared.choice.Choice.TheVariants.{Raised, Left}
 use Rattle.game.specs.Rules as game
 use Rattle.game.specs.Rules.{Rules}
@@ -10,7 +9,7 @@ use Rattle.books.specs.declared.stage.Round.{Round}
 use Rattle.books.specs.declared.stage.Stage.{Stage}
 use Rattle.books.specs.declared.stage.Stage.TheVariants.{Betting, Dealt}
 use Rattle.books.specs.declared.table_books.Books.{Books}
-use Rattle.books.specs.Books.{seat_at, laid, cleared, deal_of, round_of, with_tray, with_seat, with_stage, with_rack}
+use Rattle.books.specs.Books.{seat_at, laid, cleared, deal_of, round_of, with_tray, with_seat, with_rack}
 use Rattle.table.specs.Causes.{with_bet}
 use Rattle.table.specs.Holdings.{every, staking}
 

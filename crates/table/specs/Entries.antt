@@ -1,5 +1,5 @@
 -- The entries that a settlement writes: one for each seat that stakes, in the order of the seats.
-use Rattle.std.specs.Prelude.{ℕ, ◌+◌, List, [], ◌∷◌, map, filter}
+use Rattle.std.specs.Prelude.{ℕ, ◌+◌, List, [], map, filter}
 use Rattle.commands.specs.Calls.{Call, Open, Buy, Cash, Fill, Draw, Bet, Deal, Raise, Leave, Settle, Void}
 use Rattle.game.specs.Rules as game
 use Rattle.game.specs.Rules.{Rules}

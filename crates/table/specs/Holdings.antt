@@ -1,5 +1,5 @@
 -- What a table holds: its total, the ceilings it has to cover, who stakes, and which choices are due.
-use Rattle.std.specs.Prelude.{ℕ, ◌+◌, Bool, true, false, cond, not, ◌&&◌, ◌||◌, List, [], ◌∷◌, map, sum_by, sum, ◌==◌, nat_lt}
+use Rattle.std.specs.Prelude.{ℕ, ◌+◌, Bool, true, false, cond, ◌&&◌, ◌||◌, List, [], ◌∷◌, map, sum_by, sum, ◌==◌, nat_lt}
 use Rattle.game.specs.declared.choice.Choice.{Choice}
 use Rattle.game.specs.declared.choice.Choice.TheVariants.{Open, Raised, Left}
 use Rattle.game.specs.Rules.{Rules}

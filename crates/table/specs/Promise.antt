@@ -1,7 +1,7 @@
 -- The promise over any list of calls: what holds of a table that a history of calls has led to.
-use Rattle.std.specs.Prelude.{◌≡◌, ℕ, ◌+◌, ◌<◌, Bool, true, List, [], ◌∷◌, ◌++◌, map, length, take, pos, is_ok, Some, None, Option, Result, nat_le, slice_index_or}
+use Rattle.std.specs.Prelude.{◌≡◌, ℕ, ◌+◌, ◌<◌, true, List, [], ◌∷◌, ◌++◌, map, length, take, pos, is_ok, Some, None, Option, Result, nat_le, slice_index_or}
 use Rattle.refusals.specs.declared.Refusal.{Refusal}
-use Rattle.commands.specs.Calls.{Call, Open, Buy, Cash, Fill, Draw, Bet, Deal, Raise, Leave, Settle, Void}
+use Rattle.commands.specs.Calls.{Call, Settle}
 use Rattle.game.specs.declared.choice.Choice.TheVariants.{Open as open_choice}
 use Rattle.game.specs.Rules as game
 use Rattle.game.specs.Rules.{Rules}

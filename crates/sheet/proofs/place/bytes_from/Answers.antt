@@ -1,5 +1,5 @@
 -- From the end on there are no bytes, so the place may as well be the end.
-use Rattle.std.proofs.Common.{◌≡◌, ℕ, min, List, [], ◌∷◌, length, drop, ◌∙◌, arith}
+use Rattle.std.proofs.Common.{◌∙◌}
 use Rattle.std.proofs.lemmas.List.{take_rest}
 use Rattle.sheet.proofs.Places.{drop_min}
 use Rattle.sheet.proofs.place.bytes_from.Goals as goal

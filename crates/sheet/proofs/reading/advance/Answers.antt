@@ -1,5 +1,5 @@
 -- The first byte is taken, then the operands; the place moves by the command's width.
-use Rattle.std.proofs.Common.{◌≡◌, ◌+◌, ◌-◌, ◌<◌, ◌≤◌, length, get_or, take, drop, Err, sym, refl, ap, ◌∙◌, subst, arith, ltb-false, ltb-true}
+use Rattle.std.proofs.Common.{◌≡◌, ◌-◌, ◌≤◌, length, get_or, take, drop, Err, sym, refl, ap, ◌∙◌, subst, arith, ltb-false, ltb-true}
 use borrow.Author.Tests.{eqb-false}
 use Rattle.refusals.proofs.Causes.{none_holds}
 use Rattle.commands.specs.Calls.{call_of}

@@ -1,8 +1,8 @@
 -- The bytes of an Open, which are many.
-use Rattle.std.proofs.Common.{◌≡◌, length, sym, refl, ap, ◌∙◌, subst}
+use Rattle.std.proofs.Common.{length, sym, refl, ap, ◌∙◌, subst}
 use Rattle.commands.specs.Calls.{call_of, Open}
-use Rattle.sheet.specs.Format.{bytes_of, width_of, FitsFormat}
-use Rattle.sheet.specs.Writing.{buffer_after, too_many, write_at}
+use Rattle.sheet.specs.Format.{bytes_of, FitsFormat}
+use Rattle.sheet.specs.Writing.{buffer_after, write_at}
 use Rattle.sheet.proofs.Puts.{put_is}
 use Rattle.sheet.proofs.writing.put_command.Goals as goal
 

@@ -1,5 +1,4 @@
 -- Racks and spaces are the sums that were made, and all chips of the seats.
-use Rattle.std.proofs.Common.{ap, arith}
 use Rattle.open_table.proofs.Summing.{closed}
 use Rattle.open_table.proofs.open_table.OpenTable.closing.Goals as goal
 

@@ -1,5 +1,4 @@
 -- A sound seat has five spaces, and its chips are within the total.
-use Rattle.std.proofs.Common.{◌≤◌, ap, arith}
 use Rattle.table.proofs.Single.{sound_had}
 use Rattle.open_table.proofs.Summing.{viewed}
 use Rattle.open_table.proofs.open_table.OpenTable.view_at.Goals as goal

@@ -1,5 +1,5 @@
 -- Seven ceilings, none of which passes its bound.
-use Rattle.std.proofs.Common.{◌≡◌, ◌+◌, ◌<◌, ◌≤◌, length, take, arith, take_all}
+use Rattle.std.proofs.Common.{◌≡◌, ◌<◌, length, take, arith, take_all}
 use Rattle.std.proofs.lemmas.List.Sums.{sum_by_more}
 use Rattle.books.specs.Books.{nobody}
 use Rattle.table.proofs.holdings.Table.ceilings.Goals as goal

@@ -1,5 +1,5 @@
 -- A lawful deal has at most forty cards.
-use Rattle.std.proofs.Common.{length, sym, refl, ap, ◌∙◌}
+use Rattle.std.proofs.Common.{length, sym, ap}
 use Rattle.game.specs.Rules.{deal}
 use Rattle.table.proofs.holdings.Table.deal.Goals as goal
 

@@ -1,8 +1,8 @@
 -- The first seat that is due, from each seat on.
-use Rattle.std.proofs.Common.{◌≡◌, ℕ, ◌+◌, ◌<◌, Bool, true, false, cond, List, get_or, drop, sym, ap, ◌∙◌, arith}
+use Rattle.std.proofs.Common.{◌≡◌, ℕ, ◌+◌, ◌<◌, Bool, true, false, cond, drop, sym, ap, ◌∙◌}
 use Rattle.std.proofs.lemmas.List.{at_drop_more, at_drop_all}
 use Rattle.books.specs.Books.{seat_at}
-use Rattle.table.specs.Holdings.{every, due, first_seat, missing}
+use Rattle.table.specs.Holdings.{every, due, first_seat}
 use Rattle.table.proofs.Seats.{every_at}
 use Rattle.table.proofs.holdings.Table.missing.Goals as goal
 

@@ -1,5 +1,5 @@
 -- The tray and the bounds are good, so the table is newly opened.
-use Rattle.std.proofs.Common.{◌≡◌, ◌≤◌, false, sym, refl, ◌∙◌, arith}
+use Rattle.std.proofs.Common.{◌≡◌, ◌≤◌, false, sym, refl}
 use Rattle.std.proofs.lemmas.Bool.{le-ltb}
 use Rattle.table.specs.Holdings.{limit}
 use Rattle.table.specs.Opening.{bad_bounds}

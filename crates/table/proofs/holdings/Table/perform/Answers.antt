@@ -1,5 +1,5 @@
 -- Each arm hands on what its call did, or that the call does not belong to the stage.
-use Rattle.std.proofs.Common.{◌≡◌, refl, ap}
+use Rattle.std.proofs.Common.{refl, ap}
 use Rattle.commands.specs.Calls.{Settle, call_of}
 use Rattle.ledger.specs.Rolls.{free}
 use Rattle.ledger.proofs.Writing.{written_none}

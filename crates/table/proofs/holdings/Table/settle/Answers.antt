@@ -1,5 +1,5 @@
 -- The seats are settled one after another, and then the table is betting again.
-use Rattle.std.proofs.Common.{◌≡◌, ◌≤◌, sym, refl, ap, ◌∙◌, subst, arith}
+use Rattle.std.proofs.Common.{◌≡◌, ◌≤◌, sym, refl, ◌∙◌, arith}
 use Rattle.ledger.specs.Rolls.{free}
 use Rattle.ledger.proofs.Writing.{written_none}
 use Rattle.table.specs.Holdings.{missing, stakers}

@@ -1,5 +1,5 @@
 -- A seat that stakes is served; another only has its choice ended.
-use Rattle.std.proofs.Common.{◌≡◌, ℕ, ◌+◌, ◌<◌, ◌≤◌, Bool, true, false, cond, List, [], ◌∷◌, sym, refl, ap, ◌∙◌, subst, arith}
+use Rattle.std.proofs.Common.{◌≡◌, ◌+◌, cond, [], ◌∷◌, sym, refl, ap, ◌∙◌, subst, arith}
 use Rattle.ledger.specs.Rolls.{Written}
 use Rattle.ledger.specs.Entries.{entered}
 use Rattle.ledger.proofs.Writing.{written_none}

@@ -1,4 +1,4 @@
-use Rattle.std.proofs.Common.{◌≡◌, ◌+◌, ◌≤◌, map, drop, sum_by}
+use Rattle.std.proofs.Common.{◌≡◌, ◌+◌, ◌≤◌, drop, sum_by}
 use Rattle.books.specs.Books.{seat_at}
 use Rattle.table.specs.Holdings.{every, one_if, does_stake}
 use Rattle.table.proofs.holdings.Table.stakers.Given as goal

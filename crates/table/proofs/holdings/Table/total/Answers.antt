@@ -1,5 +1,5 @@
 -- The total so far is part of the total, which is within its limit.
-use Rattle.std.proofs.Common.{◌≡◌, ◌+◌, ◌<◌, ◌≤◌, length, take, sum_by, arith, take_all}
+use Rattle.std.proofs.Common.{◌≡◌, ◌+◌, ◌<◌, length, take, arith, take_all}
 use Rattle.std.proofs.lemmas.List.Sums.{sum_by_more, sum_by-take-le}
 use Rattle.books.specs.Books.{chips, nobody}
 use Rattle.table.proofs.Seats.{raised_small}

@@ -1,5 +1,5 @@
 -- The seats are voided one after another, and then the table is betting again.
-use Rattle.std.proofs.Common.{◌≡◌, ◌∙◌, arith}
+use Rattle.std.proofs.Common.{◌∙◌, arith}
 use Rattle.table.proofs.Voiding.{void_asks, void_goes_on, void_ends}
 use Rattle.table.proofs.holdings.Table.void.Goals as goal
 

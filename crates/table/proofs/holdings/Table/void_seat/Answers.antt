@@ -1,5 +1,5 @@
 -- A seat that stakes takes its chips back; another only has its choice ended.
-use Rattle.std.proofs.Common.{◌≡◌, ℕ, ◌<◌, ◌≤◌, sym, refl, ap, ◌∙◌, arith}
+use Rattle.std.proofs.Common.{sym, refl, ap, ◌∙◌, arith}
 use Rattle.books.specs.Books.{seat_at, unchosen, with_seat}
 use Rattle.table.proofs.Seats.{raised_small}
 use Rattle.table.proofs.Served.{some_laid, rack_fits, idle_voided, taken_back_voided}
