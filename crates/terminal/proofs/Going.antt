@@ -5,7 +5,7 @@ use Rattle.commands.specs.Calls.{Open}
 use Rattle.ledger.specs.declared.entries.Entry.{Entry}
 use Rattle.ledger.specs.declared.notes.Note.{Note}
 use Rattle.ledger.specs.declared.rolls.Roll.{Roll}
-use Rattle.ledger.specs.Rolls.{kept, places, free, Written}
+use Rattle.ledger.specs.Rolls.{kept, places, free}
 use Rattle.lines.specs.Lines.{entry_line, note_line, closing_line, lines_of}
 use Rattle.game.specs.Rules.{Rules}
 use Rattle.games.specs.Rules.{rules_of}
@@ -24,7 +24,7 @@ use Rattle.open_table.specs.Begins.{RunningFrom}
 use Rattle.open_table.specs.Firsts.{first_refusal}
 use Rattle.open_table.specs.Sums.{closing_of}
 use Rattle.open_table.specs.Tables.{rules_at, books_at, SheetRun}
-use Rattle.terminal.specs.Printed.{roll_places, run_lines, Prints, at_last, and_on, PrintedOf, empty, refused, played}
+use Rattle.terminal.specs.Printed.{roll_places, run_lines, Prints, at_last, and_on, empty, refused, played}
 use Rattle.terminal.specs.Pages.{Emptied, Ready, NextRun, Afterwards, GoneOn, Page}
 
 -- how many runs may still come: none but where room was wanting

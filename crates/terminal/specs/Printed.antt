@@ -1,5 +1,5 @@
 -- What is printed of a sheet: run by run, and the closing line.
-use Rattle.std.specs.Prelude.{◌≡◌, ℕ, ◌+◌, List, [], ◌++◌, Some, None, Ok, Err, Option, Result, ◌≢◌}
+use Rattle.std.specs.Prelude.{◌≡◌, ℕ, List, [], ◌++◌, Some, None, Ok, ◌≢◌}
 use Rattle.refusals.specs.declared.Refusal.{Refusal}
 use Rattle.refusals.specs.Refusals.{first_cause}
 use Rattle.commands.specs.declared.Conditions.{Conditions}
@@ -14,7 +14,7 @@ use Rattle.sheet.specs.Format.{width_of}
 use Rattle.sheet.specs.Reading.{read_at}
 use Rattle.table.specs.Promise.{opened}
 use Rattle.run.specs.declared.ended.Ended.{Ended}
-use Rattle.run.specs.declared.ended.Ended.TheVariants.{SheetEnd, Unreadable, NoRoom}
+use Rattle.run.specs.declared.ended.Ended.TheVariants.{NoRoom}
 use Rattle.run.specs.Meaning.{note_of}
 use Rattle.run.specs.Runs.{State, run_of}
 use Rattle.open_table.specs.Firsts.{first_refusal}

@@ -1,5 +1,6 @@
 -- Runs are printed until one does not stop for want of room, and then the closing line.
-use Rattle.std.proofs.Common.{◌<◌, sym, subst, vec_items}
+use Rattle.std.proofs.Common.{◌<◌, ◌++◌, sym, ap, ◌∙◌, subst, vec_items}
+use Rattle.lines.specs.Lines.{closing_line}
 use Rattle.terminal.proofs.Going.{Going, turns_left, going_starts, going_on, gone_on, fewer}
 use Rattle.terminal.proofs.go_on.Goals as goal
 
@@ -23,4 +24,5 @@ loop-ended-preserved c =
 
 pub returns : goal.returns
 returns c =
-    gone_on c.args.sheet.now c.args.table.now c.args.place.now.at c.args.first (vec_items c.args.page.now) c.loop-ended.table c.loop-ended.place.at c.loop-ended.ended _ _ c.in_default.not-NoRoom c.loop-ended.invariant.1 c.in_ok-print.ensures
+    gone_on c.args.sheet.now c.args.table.now c.args.place.now.at c.args.first (vec_items c.args.page.now) c.loop-ended.table c.loop-ended.place.at c.loop-ended.ended _ _ c.in_default.not-NoRoom c.loop-ended.invariant.1
+    (c.in_ok-print.ensures ∙ ap (λ z. vec_items c.loop-ended.page ++ closing_line z) c.closing.ensures.closing)

@@ -1,4 +1,4 @@
-use Rattle.std.proofs.Common.{◌≡◌, ◌+◌, ◌-◌, length, vec_items}
+use Rattle.std.proofs.Common.{vec_items}
 use Rattle.terminal.specs.Pages.{Ready}
 use Rattle.terminal.proofs.Going.{Going, turns_left}
 use Rattle.terminal.proofs.go_on.Given as goal
