@@ -12,7 +12,6 @@ use Rattle.games.specs.Rules.{rules_of}
 use Rattle.books.specs.declared.table_books.Books.{Books}
 use Rattle.sheet.specs.Format.{width_of}
 use Rattle.sheet.specs.Reading.{longest, read_at}
-use Rattle.sheet.proofs.Items.{read_short}
 use Rattle.table.specs.Promise.{opened}
 use Rattle.run.specs.declared.ended.Ended.{Ended}
 use Rattle.run.specs.declared.ended.Ended.TheVariants.{SheetEnd, Unreadable, NoRoom}
@@ -125,19 +124,7 @@ one_run sheet t p l n ended t' p' l₁ l' n₁ n' page page' r s printed le ne =
       };
     }
 
--- the first run of a sheet, once it is printed, and what comes after it
-pub first_run : (sheet : List ℕ) (l : Roll Entry) (n : Roll Note) (t : OpenTable) (ended : Ended) (p' : ℕ) (l₁ l' : Roll Entry) (n₁ n' : Roll Note) → Ready l n → RunningFrom sheet 0 l n t ended p' l₁ n₁ → Emptied l₁ l' → Emptied n₁ n'
-    → record { short : length sheet ≤ longest; ready : Ready l' n' }
-first_run sheet l n t ended p' l₁ l' n₁ n' r b le ne = record {
-  short = read_short sheet 0 _ b.reads;
-  ready = record {
-    no_entries = le.none;
-    no_notes = ne.none;
-    entries = le.as_many ∙ b.ran.ledger.as_many ∙ r.entries;
-    notes = ne.as_many ∙ b.ran.notes.as_many ∙ r.notes;
-  };
-}
-
+-- the first run of a sheet and all that comes after it, printed
 pub all_printed : (sheet : List ℕ) (l : Roll Entry) (n : Roll Note) (t : OpenTable) (ended : Ended) (p' : ℕ) (l₁ : Roll Entry) (n₁ : Roll Note) (page page' page'' : List ℕ) → Ready l n → RunningFrom sheet 0 l n t ended p' l₁ n₁
     → page' ≡ page ++ (lines_of entry_line (kept l₁) ++ lines_of note_line (kept n₁)) → GoneOn sheet t p' ended page' page'' → Page sheet page page''
 all_printed sheet l n t ended p' l₁ n₁ page page' page'' r b printed g =
