@@ -1,10 +1,10 @@
 -- The books of a table, and what moving chips does to them.
-use Rattle.std.specs.Prelude.{ℕ, ◌+◌, ◌-◌, Bool, List, [], ◌∷◌, ◌++◌, length, take, replicate, sum, slice_index_or, slice_set}
+use Rattle.std.specs.Prelude.{ℕ, ◌+◌, ◌-◌, List, [], ◌∷◌, Some, None, Option, sum, slice_index_or, slice_set}
 use Rattle.game.specs.declared.choice.Choice.TheVariants.{Open}
-use Rattle.game.specs.Rules.{Deal, deal}
 use Rattle.books.specs.declared.seat.Seat.{Seat}
-use Rattle.books.specs.declared.stage.Round.{Round}
+use Rattle.game.specs.Rules.{Deal}
 use Rattle.books.specs.declared.stage.Stage.{Stage}
+use Rattle.books.specs.declared.stage.Stage.TheVariants.{Betting, Dealt}
 use Rattle.books.specs.declared.table_books.Books.{Books}
 
 -- five spaces without a stake
@@ -27,13 +27,10 @@ laid s = sum s.stakes + s.raised
 abbrev pub chips : Seat → ℕ
 chips s = s.rack + laid s
 
--- the deal that a round holds: who staked, and the cards
-abbrev pub deal_of : Round → Deal
-deal_of r = deal r.staking (take r.count r.bytes)
-
--- the round of these cards, dealt to these seats
-abbrev pub round_of : List Bool → List ℕ → Round
-round_of staking cards = record { staking = staking; bytes = cards ++ replicate (40 - length cards) 0; count = length cards }
+-- the deal on the table
+abbrev pub deal_on : Stage → Option Deal
+deal_on Betting = None
+deal_on (Dealt d) = Some d
 
 -- the books with another tray, another seat, another stage
 abbrev pub with_tray : Books → ℕ → Books
@@ -59,18 +56,6 @@ unchosen s = record { rack = s.rack; stakes = s.stakes; raised = s.raised; choic
 abbrev pub cleared : Seat → ℕ → Seat
 cleared s n = record { rack = n; stakes = empty; raised = 0; choice = Open }
 
--- the books after a seat's chips were lifted from its spaces
-abbrev pub lifted_at : Books → ℕ → Books
-lifted_at b k = with_seat b k (lifted (seat_at b k))
-
--- the books after chips were placed in a seat's rack
-abbrev pub placed_back : Books → ℕ → ℕ → Books
-placed_back b k n = with_seat b k (with_rack (seat_at b k) ((seat_at b k).rack + n))
-
--- the books after a seat's chips went from its spaces to the tray
-abbrev pub collected : Books → ℕ → Books
-collected b k = with_tray (lifted_at b k) (b.tray + laid (seat_at b k))
-
--- the books after the tray paid a seat so much, which ends its choice
-abbrev pub paid : Books → ℕ → ℕ → Books
-paid b k n = with_tray (with_seat b k (unchosen (with_rack (seat_at b k) ((seat_at b k).rack + n)))) (b.tray - n)
+-- the books after the tray took what a seat laid and paid it so much, which ends its choice
+abbrev pub served : Books → ℕ → ℕ → Books
+served b k n = let s = seat_at b k in with_tray (with_seat b k (cleared s (s.rack + n))) (b.tray + laid s - n)

@@ -1,9 +1,8 @@
-// Lifted chips: taken from a seat's spaces, to be placed in the tray or a rack before they are let go.
-ghost use Rattle.std.specs.Prelude.{◌≡◌, ℕ, ◌+◌, ◌-◌, ◌^◌, ◌<◌, ◌≤◌, length};
-ghost use Rattle.books.specs.Books.{laid, seat_at, with_tray, with_seat, with_rack, lifted, lifted_at, placed_back, unchosen, collected, paid};
+// Lifted chips: taken from a seat's spaces, to be placed on a pile before they are let go.
+ghost use Rattle.std.specs.Prelude.{◌≡◌, ℕ, ◌+◌, ◌^◌, ◌<◌};
+ghost use Rattle.books.specs.Books.{laid, lifted, with_rack, unchosen};
 
 use crate::seat::Seat;
-use crate::table_books::Books;
 use game::choice::Choice;
 
 // Chips taken from a seat's spaces and not yet placed: a number, beside the books. Only placed chips may be let go.
@@ -19,98 +18,72 @@ impl Drop for Lifted {
     }
 }
 
-impl Books {
-    // Lifts the seat's stakes and raise from its spaces.
-    fn lift(&mut self, seat: usize) -> Lifted
-        requires seat { seat < 7 }
-        requires spaces { length (seat_at self.old seat).stakes ≡ 5 }
-        requires raise { (seat_at self.old seat).raised < 2 ^ 40 }
-        ensures chips { result.chips ≡ laid (seat_at self.old seat) }
-        ensures books { self.new ≡ with_seat self.old seat (lifted (seat_at self.old seat)) }
+impl Lifted {
+    // Places the lifted chips on a pile, which is the tray or a rack.
+    fn place(&mut self, pile: &mut u64)
+        requires some { 0 < self.old.chips }
+        requires fits { pile.old + self.old.chips < 2 ^ 64 }
+        ensures pile { pile.new ≡ pile.old + self.old.chips }
+        ensures placed { self.new.chips ≡ 0 }
     {
-        let mut s = self.seats[seat];
-        let chips = s.laid();
-        s.stakes = [0, 0, 0, 0, 0];
-        s.raised = 0;
-        self.seats[seat] = s;
+        *pile += self.chips;
+        self.chips = 0;
+    }
+}
+
+impl Seat {
+    // Lifts the seat's stakes and raise from its spaces.
+    fn lift(&mut self) -> Lifted
+        requires { self.old.raised < 2 ^ 40 }
+        ensures chips { result.chips ≡ laid self.old }
+        ensures seat { self.new ≡ lifted self.old }
+    {
+        let chips = self.laid();
+        self.stakes = [0; 5];
+        self.raised = 0;
         Lifted { chips }
     }
 
-    // Places lifted chips in the tray.
-    fn place_in_tray(&mut self, lifted: &mut Lifted)
-        requires some { 0 < lifted.old.chips }
-        requires fits { self.old.tray + lifted.old.chips < 2 ^ 64 }
-        ensures books { self.new ≡ with_tray self.old (self.old.tray + lifted.old.chips) }
-        ensures placed { lifted.new.chips ≡ 0 }
-    {
-        self.tray += lifted.chips;
-        lifted.chips = 0;
-    }
-
-    // Places lifted chips in a seat's rack.
-    fn place_in_rack(&mut self, seat: usize, lifted: &mut Lifted)
-        requires seat { seat < 7 }
-        requires some { 0 < lifted.old.chips }
-        requires fits { (seat_at self.old seat).rack + lifted.old.chips < 2 ^ 64 }
-        ensures books { self.new ≡ with_seat self.old seat (with_rack (seat_at self.old seat) ((seat_at self.old seat).rack + lifted.old.chips)) }
-        ensures placed { lifted.new.chips ≡ 0 }
-    {
-        let mut s = self.seats[seat];
-        s.rack += lifted.chips;
-        self.seats[seat] = s;
-        lifted.chips = 0;
-    }
-
     // Moves the seat's stakes and raise to the tray, and tells how many chips they were.
-    pub(crate) fn collect(&mut self, seat: usize) -> u64
-        requires seat { seat < 7 }
-        requires spaces { length (seat_at self.old seat).stakes ≡ 5 }
-        requires raise { (seat_at self.old seat).raised < 2 ^ 40 }
-        requires some { 0 < laid (seat_at self.old seat) }
-        requires fits { self.old.tray + laid (seat_at self.old seat) < 2 ^ 64 }
-        ensures chips { result ≡ laid (seat_at self.old seat) }
-        ensures books { self.new ≡ collected self.old seat }
+    pub(crate) fn collect(&mut self, tray: &mut u64) -> u64
+        requires raise { self.old.raised < 2 ^ 40 }
+        requires some { 0 < laid self.old }
+        requires fits { tray.old + laid self.old < 2 ^ 64 }
+        ensures chips { result ≡ laid self.old }
+        ensures seat { self.new ≡ lifted self.old }
+        ensures tray { tray.new ≡ tray.old + laid self.old }
     {
-        let mut lifted = self.lift(seat);
+        let mut lifted = self.lift();
         let chips = lifted.chips;
-        self.place_in_tray(&mut lifted);
+        lifted.place(tray);
         chips
     }
 
     // Moves the seat's stakes and raise back to its rack.
-    pub fn take_back(&mut self, seat: usize)
-        requires seat { seat < 7 }
-        requires spaces { length (seat_at self.old seat).stakes ≡ 5 }
-        requires raise { (seat_at self.old seat).raised < 2 ^ 40 }
-        requires some { 0 < laid (seat_at self.old seat) }
-        requires fits { (seat_at (lifted_at self.old seat) seat).rack + laid (seat_at self.old seat) < 2 ^ 64 }
-        ensures { self.new ≡ placed_back (lifted_at self.old seat) seat (laid (seat_at self.old seat)) }
+    pub fn take_back(&mut self)
+        requires raise { self.old.raised < 2 ^ 40 }
+        requires fits { self.old.rack + laid self.old < 2 ^ 64 }
+        ensures { self.new ≡ with_rack (lifted self.old) (self.old.rack + laid self.old) }
     {
-        let mut lifted = self.lift(seat);
-        self.place_in_rack(seat, &mut lifted);
+        let mut lifted = self.lift();
+        if lifted.chips > 0 {
+            lifted.place(&mut self.rack);
+        }
     }
 
-    // Pays chips of the tray into the seat's rack; its choice is over.
-    pub(crate) fn pay(&mut self, seat: usize, chips: u64)
-        requires seat { seat < 7 }
-        requires covered { chips ≤ self.old.tray }
-        requires fits { (seat_at self.old seat).rack + chips < 2 ^ 64 }
-        ensures { self.new ≡ paid self.old seat chips }
+    // Pays chips into the seat's rack; its choice is over.
+    pub(crate) fn pay(&mut self, chips: u64)
+        requires { self.old.rack + chips < 2 ^ 64 }
+        ensures { self.new ≡ unchosen (with_rack self.old (self.old.rack + chips)) }
     {
-        let mut s = self.seats[seat];
-        s.rack += chips;
-        s.choice = Choice::Open;
-        self.seats[seat] = s;
-        self.tray -= chips;
+        self.rack += chips;
+        self.end_choice();
     }
 
     // The seat's choice is over, and nothing else changes.
-    pub fn end_choice(&mut self, seat: usize)
-        requires { seat < 7 }
-        ensures { self.new ≡ with_seat self.old seat (unchosen (seat_at self.old seat)) }
+    pub fn end_choice(&mut self)
+        ensures { self.new ≡ unchosen self.old }
     {
-        let mut s = self.seats[seat];
-        s.choice = Choice::Open;
-        self.seats[seat] = s;
+        self.choice = Choice::Open;
     }
 }

@@ -1,13 +1,34 @@
 // Whether the table is betting or dealt.
-ghost use Rattle.std.specs.Prelude.{◌≡◌, ℕ, ◌≤◌, length};
-ghost use Rattle.books.specs.Books.{round_of, deal_of};
+ghost use Rattle.std.specs.Prelude.{◌≡◌, ◌≤◌, length, option_map};
+ghost use Rattle.game.specs.Rules.{deal_of};
+ghost use Rattle.books.specs.Books.{deal_on};
 
-// The cards of a round, and the seats that staked on it. Of the forty bytes the first `count` are the cards.
+use game::deal::Deal;
+use std::marker::Model;
+
+// The deal of a round, as a table keeps it. Of the forty bytes the first `count` are the cards, and the others are 0.
+// An array and no `ArrayVec`, since a round is copied: a table is settled from a copy of its stage.
 #[derive(Clone, Copy)]
 pub struct Round {
-    pub staking: [bool; 7],
-    pub bytes: [u8; 40],
-    pub count: u8,
+    staking: [bool; 7],
+    bytes: [u8; 40],
+    count: u8,
+}
+
+impl Model for Round {
+    ghost use Rattle.game.specs.Rules.{Deal};
+
+    ghost Value = { Deal };
+
+    ghost use Rattle.books.specs.Rounds.{held, IsKept, kept, kept_back};
+
+    ghost view = { held };
+
+    ghost invariant = { IsKept };
+
+    ghost inverse = { kept };
+
+    ghost inverse_ok = { kept_back };
 }
 
 #[derive(Clone, Copy)]
@@ -16,27 +37,42 @@ pub enum Stage {
     Dealt(Round),
 }
 
-impl Round {
-    // The round of these cards, dealt to these seats.
-    pub fn new(staking: [bool; 7], cards: &[u8]) -> Round
-        requires few { length cards.now ≤ 40 }
-        ensures { result ≡ round_of staking cards.now }
+impl Stage {
+    // The deal on the table.
+    pub fn deal(&self) -> Option<Deal<'_>>
+        ensures { option_map deal_of result ≡ deal_on self.now }
     {
-        let count = cards.len();
+        match self {
+            Stage::Betting => None,
+            Stage::Dealt(round) => Some(round.deal()),
+        }
+    }
+}
+
+impl Round {
+    // The round of this deal.
+    pub fn new(deal: &Deal<'_>) -> Round
+        requires few { length deal.now.cards.now ≤ 40 }
+        ensures { result ≡ deal_of deal.now }
+    {
+        let count = deal.cards.len();
         let mut bytes = [0; 40];
-        bytes[0..count].copy_from_slice(cards);
+        bytes[0..count].copy_from_slice(deal.cards);
         Round {
-            staking,
+            staking: deal.staking,
             bytes,
+            // A cast that is proved to fit: a conversion would have an error that cannot be.
             count: count as u8,
         }
     }
 
-    // The cards of the round.
-    pub fn cards(&self) -> &[u8]
-        requires held { self.now.count ≤ length self.now.bytes }
-        ensures { result.now ≡ (deal_of self.now).cards }
+    // The deal of the round.
+    pub fn deal(&self) -> Deal<'_>
+        ensures { deal_of result ≡ self.now }
     {
-        &self.bytes[0..self.count as usize]
+        Deal {
+            staking: self.staking,
+            cards: &self.bytes[..self.count as usize],
+        }
     }
 }

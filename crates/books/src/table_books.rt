@@ -2,7 +2,7 @@
 use crate::seat::Seat;
 use crate::stage::Stage;
 
-// `rounds` counts the deals. A stake is from `minimum` to `maximum`.
+// `rounds` counts the deals. A stake is from `minimum` to `maximum`, which stand apart as in the conditions that a sheet names.
 #[derive(Clone, Copy)]
 pub struct Books {
     pub tray: u64,

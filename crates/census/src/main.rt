@@ -3,40 +3,19 @@
 
 ghost use Rattle.std.specs.Prelude.{◌<◌};
 
-use grading::{FiveClass, ThreeClass, five_class, three_class};
+use grading::{FiveClass, FiveHand, Hand, HandClass, ThreeClass, ThreeHand, class};
+use std::alloc::AllocError;
+use std::collections::BTreeMap;
 use std::io;
 use std::io::{BufWriter, Write};
 
-// How many hands are of each class, at the place that says how many classes are lower.
-#[derive(Drop)]
-struct Census {
-    threes: [u32; 6],
-    fives: [u32; 10],
-}
-
-impl Census {
-    fn note_three(&mut self, class: ThreeClass) {
-        if let Some(count) = self.threes.get_mut(class.below() as usize) {
-            *count = count.wrapping_add(1);
-        }
+// Notes the class of a hand.
+fn note<H: Hand>(census: &mut BTreeMap<H::Class, u32>, cards: &[u8]) -> Result<(), AllocError> {
+    if let Ok(class) = class::<H>(cards) {
+        let count = census.entry(class)?.or_insert(0);
+        *count = count.wrapping_add(1);
     }
-
-    fn threes_of(&self, class: ThreeClass) -> u32 {
-        self.threes
-            .get(class.below() as usize)
-            .copied()
-            .unwrap_or(0)
-    }
-
-    fn note_five(&mut self, class: FiveClass) {
-        if let Some(count) = self.fives.get_mut(class.below() as usize) {
-            *count = count.wrapping_add(1);
-        }
-    }
-
-    fn fives_of(&self, class: FiveClass) -> u32 {
-        self.fives.get(class.below() as usize).copied().unwrap_or(0)
-    }
+    Ok(())
 }
 
 // The card at a place of the pack, which is in order of ranks.
@@ -46,77 +25,60 @@ fn card_at(place: u8) -> u8
     16 * (place / 4 + 2) + place % 4
 }
 
-fn count_threes(census: &mut Census) {
+fn count_threes(census: &mut BTreeMap<ThreeClass, u32>) -> Result<(), AllocError> {
     for a in 0..52 {
         for b in 0..a {
             for c in 0..b {
-                if let Ok(class) = three_class(&[card_at(a), card_at(b), card_at(c)]) {
-                    census.note_three(class);
-                }
+                note::<ThreeHand>(census, &[card_at(a), card_at(b), card_at(c)])?;
             }
         }
     }
+    Ok(())
 }
 
 // The hands of five whose highest two places in the pack are these.
-fn count_fives_under(census: &mut Census, a: u8, b: u8)
+fn count_fives_under(census: &mut BTreeMap<FiveClass, u32>, a: u8, b: u8) -> Result<(), AllocError>
     requires { (a < 52) × (b < 52) }
 {
     for c in 0..b {
         for d in 0..c {
             for e in 0..d {
                 let hand = [card_at(a), card_at(b), card_at(c), card_at(d), card_at(e)];
-                if let Ok(class) = five_class(&hand) {
-                    census.note_five(class);
-                }
+                note::<FiveHand>(census, &hand)?;
             }
         }
     }
+    Ok(())
 }
 
-fn count_fives(census: &mut Census) {
+fn count_fives(census: &mut BTreeMap<FiveClass, u32>) -> Result<(), AllocError> {
     for a in 0..52 {
         for b in 0..a {
-            count_fives_under(census, a, b);
+            count_fives_under(census, a, b)?;
         }
     }
+    Ok(())
+}
+
+// A line for each class, downward.
+fn print<K: HandClass>(
+    out: &mut BufWriter<io::Stdout>,
+    size: &str,
+    census: &BTreeMap<K, u32>,
+) -> io::Result<()> {
+    for (class, count) in census.iter().rev() {
+        writeln!(out, "{size} cards, {class}: {count}")?;
+    }
+    Ok(())
 }
 
 fn main(rt: HostRuntime) -> io::Result<()> {
-    let mut census = Census {
-        threes: [0; 6],
-        fives: [0; 10],
-    };
-    count_threes(&mut census);
-    count_fives(&mut census);
+    let mut threes = BTreeMap::new(rt.alloc());
+    count_threes(&mut threes)?;
+    let mut fives = BTreeMap::new(rt.alloc());
+    count_fives(&mut fives)?;
     let mut out = BufWriter::new(rt.alloc(), rt.stdout())?;
-    for class in [
-        ThreeClass::StraightFlush,
-        ThreeClass::Three,
-        ThreeClass::Straight,
-        ThreeClass::Flush,
-        ThreeClass::Pair,
-        ThreeClass::OddCards,
-    ] {
-        let word = class.word();
-        let count = census.threes_of(class);
-        writeln!(out, "three cards, {word}: {count}")?;
-    }
-    for class in [
-        FiveClass::RoyalFlush,
-        FiveClass::StraightFlush,
-        FiveClass::Four,
-        FiveClass::FullHouse,
-        FiveClass::Flush,
-        FiveClass::Straight,
-        FiveClass::Three,
-        FiveClass::TwoPairs,
-        FiveClass::Pair,
-        FiveClass::OddCards,
-    ] {
-        let word = class.word();
-        let count = census.fives_of(class);
-        writeln!(out, "five cards, {word}: {count}")?;
-    }
+    print(&mut out, "three", &threes)?;
+    print(&mut out, "five", &fives)?;
     out.flush()
 }

@@ -5,6 +5,7 @@ ghost use Rattle.std.specs.Prelude.{◌≡◌};
 ghost use Rattle.commands.specs.Calls.{call_of, name_of, seat_named};
 
 // The conditions under which a table is opened: which game, the bounds of a stake, and what the game posts.
+// The game is a number, since a sheet may name one that there is not; opening a table refuses that.
 #[derive(Clone, Copy)]
 pub struct Conditions {
     pub game: u8,
@@ -31,7 +32,7 @@ pub enum Command<'a> {
 }
 
 impl Command<'_> {
-    // The seat that the command names, as handed in; 0 where it names none.
+    // The seat that the command names, as handed in; 0 where it names none, as a refusal has it.
     pub fn seat(&self) -> u8
         ensures { result ≡ seat_named (call_of self.now) }
     {
@@ -43,6 +44,7 @@ impl Command<'_> {
         }
     }
 
+    // The word for the command alone: a `Display` would have to show its operands too.
     pub fn name(&self) -> &'static str
         ensures { result.now ≡ name_of (call_of self.now) }
     {

@@ -1,1 +1,4 @@
 pub mod Stakes
+pub mod Judged
+pub mod Five
+pub mod Postable

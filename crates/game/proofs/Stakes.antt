@@ -1,15 +1,14 @@
 -- A seat's five stakes: their sum by its places, and what it bounds.
-use Rattle.std.proofs.Common.{◌≡◌, ℕ, ◌+◌, ◌<◌, ◌≤◌, List, length, get_or, sum, ⊎_elim, arith}
-use Rattle.std.proofs.lemmas.List.{get_or_past, at_drop_all}
-use Rattle.std.proofs.lemmas.List.Sums.{get_or-le-sum_by, sum_by-drop_more}
+use Rattle.std.proofs.Common.{◌≡◌, ℕ, ◌+◌, ◌<◌, ◌≤◌, List, length, get_or, sum, ap, ⊎_elim, arith}
+use Rattle.std.proofs.lemmas.List.{get_or_past}
+use Rattle.std.proofs.lemmas.List.Sums.{get_or-le-sum_by}
 use Rattle.std.proofs.lemmas.Bool.{cases_lt}
 use Rattle.game.specs.Rules.{Small}
+use Rattle.game.proofs.Five.{five_places}
 
 -- the sum of five stakes, place by place
 pub sum_by_places : (stakes : List ℕ) → length stakes ≡ 5 → sum stakes ≡ get_or stakes 0 0 + get_or stakes 1 0 + get_or stakes 2 0 + get_or stakes 3 0 + get_or stakes 4 0
-sum_by_places stakes h =
-    let from = λ (i : ℕ) (l : i < length stakes). sum_by-drop_more (λ x. x) stakes i 0 l in
-    omega (arith, from 0 (omega arith), from 1 (omega arith), from 2 (omega arith), from 3 (omega arith), from 4 (omega arith), at_drop_all sum stakes 5 (omega arith))
+sum_by_places stakes h = omega (arith, ap sum (five_places stakes h))
 
 -- a stake is at most the sum
 pub stake_le_sum : (stakes : List ℕ) (i : ℕ) → get_or stakes i 0 ≤ sum stakes

@@ -1,2 +1,5 @@
 pub mod Causes
+pub mod Dealing
+pub mod Odds
+pub mod Opening
 pub mod Rules

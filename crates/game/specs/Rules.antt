@@ -1,11 +1,11 @@
 -- What makes a game: what it tells, and what it promises for any stakes up to a million a space, any choice it allows and any lawful deal.
-use Rattle.std.specs.Prelude.{◌≡◌, ℕ, ◌+◌, ◌≤◌, Bool, true, false, List, length, sum, slice_index}
+use Rattle.std.specs.Prelude.{◌≡◌, ℕ, ◌+◌, ◌≤◌, Bool, true, false, List, length, sum, slice_index, Ok, Err, Result}
 use Rattle.game.specs.declared.choice.Choice.{Choice}
 use Rattle.game.specs.declared.choice.Choice.TheVariants.{Open, Raised, Left}
-use Rattle.game.specs.declared.taking.Taking.{Taking}
-use Rattle.game.specs.declared.taking.Taking.TheVariants.{NoBets}
-use Rattle.game.specs.declared.dealing.Dealing.{Dealing}
-use Rattle.game.specs.declared.dealing.Dealing.TheVariants.{Lawful}
+use Rattle.game.specs.declared.taking.Barred.{Barred}
+use Rattle.game.specs.declared.taking.Barred.TheVariants.{NoBets}
+use Rattle.game.specs.declared.dealing.Misdeal.{Misdeal}
+use Rattle.game.specs.declared.deal.Deal.{Deal as GivenDeal}
 
 -- a deal: which seats staked, from seat 1 on, and the cards as handed in
 pub record Deal : Type 0 where
@@ -16,12 +16,16 @@ pub record Deal : Type 0 where
 abbrev pub deal : List Bool → List ℕ → Deal
 deal staking cards = record { staking = staking; cards = cards }
 
+-- the deal that a game is asked about, wherever its cards lie
+abbrev pub deal_of : GivenDeal → Deal
+deal_of d = deal d.staking d.cards.now
+
 -- the five tellings; a seat's stakes are those it laid before the deal, the stake of space s at place s - 1
 pub record Rules : Type 0 where
   -- which of spaces 1 to 5 take a stake, given the seat's other stakes; it is defined for other numbers too
-  pub takes : List ℕ → ℕ → Taking
+  pub takes : List ℕ → ℕ → Result (Unit {0}) Barred
   -- whether the cards are a lawful deal for the staking seats
-  pub deals : Deal → Dealing
+  pub deals : Deal → Result (Unit {0}) Misdeal
   -- whether a seat has a choice, whether it may leave, and its raise
   pub chooses : List ℕ → Bool
   pub leaves : List ℕ → Bool
@@ -45,7 +49,7 @@ Allowed R stakes Left = (R.chooses stakes ≡ true) × (R.leaves stakes ≡ true
 -- a deal to seven seats that the game tells to be lawful
 pub record Fair (R : Rules) (d : Deal) : Type 0 where
   pub seven : length d.staking ≡ 7
-  pub lawful : R.deals d ≡ Lawful
+  pub lawful : R.deals d ≡ Ok tt
 
 -- what a choice adds to the stakes: the raise, if the seat raised
 abbrev pub added : Rules → List ℕ → Choice → ℕ
@@ -70,4 +74,4 @@ pub record Facts (R : Rules) : Type 0 where
 
 -- in a game that ever tells a choice, space 2 is the raise's and takes no stake
 abbrev pub RaiseSpace : Rules → Type 0
-RaiseSpace R = (stakes others : List ℕ) → Small stakes → R.chooses stakes ≡ true → Small others → R.takes others 2 ≡ NoBets
+RaiseSpace R = (stakes others : List ℕ) → Small stakes → R.chooses stakes ≡ true → Small others → R.takes others 2 ≡ Err NoBets

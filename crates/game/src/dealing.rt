@@ -1,25 +1,36 @@
-// Whether cards are a lawful deal: they are, one is no card (or stands where it may not), or their number is not the one called for.
-ghost use Rattle.std.specs.Prelude.{◌≡◌};
+// Whether cards are a lawful deal, and why not: one is no card (or stands where it may not), or their number is not the one called for.
+ghost use Rattle.std.specs.Prelude.{◌≡◌, Some, Err};
 ghost use Rattle.game.specs.Causes.{dealing_cause};
+ghost use Rattle.game.specs.Dealing.{judged};
 
 use refusals::Cause;
 
 #[derive(Clone, Copy, PartialEq, Eq, Debug)]
-pub enum Dealing {
-    Lawful,
+pub enum Misdeal {
     NoCard,
     WrongCount,
 }
 
-impl Dealing {
-    // Why the deal is refused, if it is.
-    pub fn cause(self) -> Option<Cause>
-        ensures { result ≡ dealing_cause self }
-    {
-        match self {
-            Dealing::Lawful => None,
-            Dealing::NoCard => Some(Cause::NoCard),
-            Dealing::WrongCount => Some(Cause::WrongCount),
+// The judgement of a deal, by whether each card may stand in it, and how many there are and are called for.
+pub fn judge(may_stand: bool, count: usize, called: usize) -> Result<(), Misdeal>
+    ensures { result ≡ judged may_stand count called }
+{
+    if !may_stand {
+        Err(Misdeal::NoCard)
+    } else if count != called {
+        Err(Misdeal::WrongCount)
+    } else {
+        Ok(())
+    }
+}
+
+impl From<Misdeal> for Cause {
+    ghost from_gives = { λ misdeal cause. Some cause ≡ dealing_cause (Err misdeal) };
+
+    fn from(misdeal: Misdeal) -> Cause {
+        match misdeal {
+            Misdeal::NoCard => Cause::NoCard,
+            Misdeal::WrongCount => Cause::WrongCount,
         }
     }
 }

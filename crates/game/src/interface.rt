@@ -1,22 +1,23 @@
 // The interface of games: each question is answered as the game tells, asks nothing of its caller and alters nothing.
 ghost use Rattle.std.specs.Prelude.{◌≡◌};
-ghost use Rattle.game.specs.Rules.{Rules, Facts, RaiseSpace, deal};
+ghost use Rattle.game.specs.Rules.{Rules, Facts, RaiseSpace, deal_of};
 
 use crate::choice::Choice;
-use crate::dealing::Dealing;
-use crate::taking::Taking;
+use crate::deal::Deal;
+use crate::dealing::Misdeal;
+use crate::taking::Barred;
 
 pub trait Game {
     // what the game tells
     ghost rules: { Self → Rules };
 
     // Whether the space takes a stake beside the seat's other stakes.
-    fn takes(&self, stakes: &[u32; 5], space: u8) -> Taking
+    fn takes(&self, stakes: &[u32; 5], space: u8) -> Result<(), Barred>
         ensures { result ≡ (rules self.now).takes stakes.now space };
 
     // Whether the cards are a lawful deal for the staking seats.
-    fn deals(&self, staking: &[bool; 7], cards: &[u8]) -> Dealing
-        ensures { result ≡ (rules self.now).deals (deal staking.now cards.now) };
+    fn deals(&self, deal: &Deal<'_>) -> Result<(), Misdeal>
+        ensures { result ≡ (rules self.now).deals (deal_of deal.now) };
 
     // Whether a seat with these stakes has a choice.
     fn chooses(&self, stakes: &[u32; 5]) -> bool
@@ -31,15 +32,8 @@ pub trait Game {
         ensures { result ≡ (rules self.now).raise stakes.now };
 
     // What the seat, counted from 0, gets back for its stakes and its choice.
-    fn returns(
-        &self,
-        seat: usize,
-        stakes: &[u32; 5],
-        choice: Choice,
-        staking: &[bool; 7],
-        cards: &[u8],
-    ) -> u64
-        ensures { result ≡ (rules self.now).returns seat stakes.now choice (deal staking.now cards.now) };
+    fn returns(&self, seat: usize, stakes: &[u32; 5], choice: Choice, deal: &Deal<'_>) -> u64
+        ensures { result ≡ (rules self.now).returns seat stakes.now choice (deal_of deal.now) };
 
     // The most that the bank may have to add to what the seat laid.
     fn ceiling(&self, stakes: &[u32; 5]) -> u64

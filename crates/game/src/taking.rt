@@ -1,25 +1,22 @@
-// Whether a space takes a stake: it does, it takes no bets, or it lacks its companion.
-ghost use Rattle.std.specs.Prelude.{◌≡◌};
+// Whether a space takes a stake, and why not: it takes no bets, or it lacks its companion.
+ghost use Rattle.std.specs.Prelude.{◌≡◌, Some, Err};
 ghost use Rattle.game.specs.Causes.{taking_cause};
 
 use refusals::Cause;
 
 #[derive(Clone, Copy, PartialEq, Eq, Debug)]
-pub enum Taking {
-    Takes,
+pub enum Barred {
     NoBets,
     NoCompanion,
 }
 
-impl Taking {
-    // Why the stake is refused, if it is.
-    pub fn cause(self) -> Option<Cause>
-        ensures { result ≡ taking_cause self }
-    {
-        match self {
-            Taking::Takes => None,
-            Taking::NoBets => Some(Cause::NoBets),
-            Taking::NoCompanion => Some(Cause::NoCompanion),
+impl From<Barred> for Cause {
+    ghost from_gives = { λ barred cause. Some cause ≡ taking_cause (Err barred) };
+
+    fn from(barred: Barred) -> Cause {
+        match barred {
+            Barred::NoBets => Cause::NoBets,
+            Barred::NoCompanion => Cause::NoCompanion,
         }
     }
 }

@@ -4,7 +4,6 @@ use Rattle.grading.specs.Grading.{five_compared}
 use Rattle.grading.specs.declared.comparisons.Comparison.TheVariants.{Lower}
 use Rattle.game.specs.Rules.{Rules, Deal, deal}
 use Rattle.game.specs.declared.choice.Choice.TheVariants.{Raised}
-use Rattle.game.specs.declared.dealing.Dealing.TheVariants.{Lawful}
 use Rattle.poker.specs.Fortune.{fortune_opens, fortune_rules}
 use Rattle.poker.specs.Stud.{stud_rules}
 use Rattle.makccarat.specs.Laws.{CheckedDeals as MakccaratDeals}
@@ -28,7 +27,7 @@ heads_up own bank = deal (true ∷ false ∷ false ∷ false ∷ false ∷ false
 
 -- with these cards against the bank's, a lawful deal, an ante of 100 that is raised returns this much
 pub record Brings (R : Rules) (own bank : List ℕ) (amount : ℕ) : Type 0 where
-  pub lawful : R.deals (heads_up own bank) ≡ Lawful
+  pub lawful : R.deals (heads_up own bank) ≡ Ok tt
   pub returned : R.returns 0 (100 ∷ 0 ∷ 0 ∷ 0 ∷ 0 ∷ []) Raised (heads_up own bank) ≡ amount
 
 -- the hands, of mixed suits

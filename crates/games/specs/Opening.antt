@@ -1,8 +1,7 @@
 -- Opening a game by its number from the conditions of a table.
-use Rattle.std.specs.Prelude.{◌≡◌, ℕ, Bool, false, ◌&&◌, ◌||◌, List, Ok, Err, Result, ◌==◌}
+use Rattle.std.specs.Prelude.{◌≡◌, ℕ, Bool, ◌&&◌, ◌||◌, List, Result, MatchResult, ◌==◌}
 use Rattle.refusals.specs.declared.Refusal.{Refusal}
-use Rattle.refusals.specs.declared.Cause.TheVariants.{BadConditions}
-use Rattle.refusals.specs.Refusals.{refused}
+use Rattle.game.specs.Opening.{Refuses}
 use Rattle.poker.specs.FortuneOpening.{fortune_conditions, Opens as FortuneOpens}
 use Rattle.poker.specs.StudOpening.{stud_conditions, Opens as StudOpens}
 use Rattle.makccarat.specs.Opening.{Opens as MakccaratOpens}
@@ -31,12 +30,6 @@ Opens number cap odds (Fortune g) = (number ≡ 1) × FortuneOpens g.grading cap
 Opens number cap odds (Stud g) = (number ≡ 2) × StudOpens cap odds g
 Opens number cap odds (Makccarat g) = (number ≡ way_number g.way) × MakccaratOpens g.way cap odds g
 
--- the refusal of conditions that are broken, which names no seat
-pub record Refuses (number cap : ℕ) (odds : List ℕ) (e : Refusal) : Type 0 where
-  pub broken : conditions number cap odds ≡ false
-  pub refusal : e ≡ refused BadConditions 0
-
 -- what opening answers
 abbrev pub Opened : ℕ → ℕ → List ℕ → Result AnyGame Refusal → Type 0
-Opened number cap odds (Ok g) = Opens number cap odds g
-Opened number cap odds (Err e) = Refuses number cap odds e
+Opened number cap odds r = MatchResult r (Opens number cap odds) (Refuses (conditions number cap odds))

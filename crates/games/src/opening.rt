@@ -11,9 +11,11 @@ use refusals::{Cause, Refusal};
 
 impl AnyGame {
     // The game of this number at these conditions; where they are not the game's, or there is none of that number, refusal 18.
+    // Cap and odds come from a sheet's conditions, which the games do not know; a struct of the two would be filled here and taken apart in each of the three.
     pub fn new(number: u8, cap: u64, odds: [u16; 5]) -> Result<AnyGame, Refusal>
         ensures { Opened number cap odds result }
     {
+        // The number is matched once, here, where it becomes a game: an enum of numbers would be matched a second time.
         match number {
             1 => Ok(AnyGame::Fortune(Fortune::open(ByRule, cap, odds)?)),
             2 => Ok(AnyGame::Stud(Stud::open(cap, odds)?)),

@@ -4,9 +4,21 @@ ghost use Rattle.games.specs.Facts.{facts_of, raise_space_of};
 
 use crate::any_game::AnyGame;
 use game::choice::Choice;
-use game::dealing::Dealing;
+use game::deal::Deal;
+use game::dealing::Misdeal;
 use game::interface::Game;
-use game::taking::Taking;
+use game::taking::Barred;
+
+// What the game at hand answers, whichever it is. A match: a closure over a `dyn Game` would have to promise what it answers of any game.
+macro_rules! ask {
+    ($any:expr, $game:ident => $answer:expr) => {
+        match $any {
+            AnyGame::Fortune($game) => $answer,
+            AnyGame::Stud($game) => $answer,
+            AnyGame::Makccarat($game) => $answer,
+        }
+    };
+}
 
 impl Game for AnyGame {
     ghost rules = { rules_of };
@@ -15,66 +27,31 @@ impl Game for AnyGame {
 
     ghost raise_space = { raise_space_of };
 
-    fn takes(&self, stakes: &[u32; 5], space: u8) -> Taking {
-        match self {
-            AnyGame::Fortune(game) => game.takes(stakes, space),
-            AnyGame::Stud(game) => game.takes(stakes, space),
-            AnyGame::Makccarat(game) => game.takes(stakes, space),
-        }
+    fn takes(&self, stakes: &[u32; 5], space: u8) -> Result<(), Barred> {
+        ask!(self, game => game.takes(stakes, space))
     }
 
-    fn deals(&self, staking: &[bool; 7], cards: &[u8]) -> Dealing {
-        match self {
-            AnyGame::Fortune(game) => game.deals(staking, cards),
-            AnyGame::Stud(game) => game.deals(staking, cards),
-            AnyGame::Makccarat(game) => game.deals(staking, cards),
-        }
+    fn deals(&self, deal: &Deal<'_>) -> Result<(), Misdeal> {
+        ask!(self, game => game.deals(deal))
     }
 
     fn chooses(&self, stakes: &[u32; 5]) -> bool {
-        match self {
-            AnyGame::Fortune(game) => game.chooses(stakes),
-            AnyGame::Stud(game) => game.chooses(stakes),
-            AnyGame::Makccarat(game) => game.chooses(stakes),
-        }
+        ask!(self, game => game.chooses(stakes))
     }
 
     fn leaves(&self, stakes: &[u32; 5]) -> bool {
-        match self {
-            AnyGame::Fortune(game) => game.leaves(stakes),
-            AnyGame::Stud(game) => game.leaves(stakes),
-            AnyGame::Makccarat(game) => game.leaves(stakes),
-        }
+        ask!(self, game => game.leaves(stakes))
     }
 
     fn raise(&self, stakes: &[u32; 5]) -> u64 {
-        match self {
-            AnyGame::Fortune(game) => game.raise(stakes),
-            AnyGame::Stud(game) => game.raise(stakes),
-            AnyGame::Makccarat(game) => game.raise(stakes),
-        }
+        ask!(self, game => game.raise(stakes))
     }
 
-    fn returns(
-        &self,
-        seat: usize,
-        stakes: &[u32; 5],
-        choice: Choice,
-        staking: &[bool; 7],
-        cards: &[u8],
-    ) -> u64 {
-        match self {
-            AnyGame::Fortune(game) => game.returns(seat, stakes, choice, staking, cards),
-            AnyGame::Stud(game) => game.returns(seat, stakes, choice, staking, cards),
-            AnyGame::Makccarat(game) => game.returns(seat, stakes, choice, staking, cards),
-        }
+    fn returns(&self, seat: usize, stakes: &[u32; 5], choice: Choice, deal: &Deal<'_>) -> u64 {
+        ask!(self, game => game.returns(seat, stakes, choice, deal))
     }
 
     fn ceiling(&self, stakes: &[u32; 5]) -> u64 {
-        match self {
-            AnyGame::Fortune(game) => game.ceiling(stakes),
-            AnyGame::Stud(game) => game.ceiling(stakes),
-            AnyGame::Makccarat(game) => game.ceiling(stakes),
-        }
+        ask!(self, game => game.ceiling(stakes))
     }
 }

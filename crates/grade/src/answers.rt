@@ -1,50 +1,66 @@
-// The answer for a line: the class of a hand, or the classes of two and which is higher, or why it is refused.
-ghost use Rattle.std.specs.Prelude.{◌≡◌, IfOk};
-ghost use Rattle.grading.specs.Grading.{three_class, three_compared, five_class, five_compared};
-ghost use Rattle.grade.specs.Answers.{or_refused, of_threes, of_fives, one_hand, two_hands, line_answer, outcome_word, meaning_words};
+// The answer for a line: the class of a hand, or the classes of two and which is higher, or why there is none.
+ghost use Rattle.std.specs.Prelude.{◌≡◌, Some};
+ghost use Rattle.grade.specs.Answers.{IsAnswer, one_graded, two_graded, one_hand, two_hands, text_answer, texts_answer, line_answer, outcome_word, graded_text, said, why_said, meaning_words};
+ghost use Rattle.grade.specs.declared.answers.Unanswered.TheVariants.{OutOfMemory, Refused};
 
 use crate::lines::{bar_of, read_cards};
 use grading::{
-    Comparison, FiveClass, ThreeClass, five_class, five_compare, three_class, three_compare,
+    Comparison, FiveClass, FiveHand, Hand, HandClass, ThreeClass, ThreeHand, class, compare,
 };
 use refusals::{Cause, Refusal};
 use std::alloc::{AllocError, Global};
+use std::fmt;
 
+// A hand's class, or those of two hands and how the first compares with the second.
 #[derive(Clone, Copy)]
-pub enum Answer {
-    Nothing,
-    ThreeCards(ThreeClass),
-    FiveCards(FiveClass),
-    ThreeAndThree(ThreeClass, ThreeClass, Comparison),
-    FiveAndFive(FiveClass, FiveClass, Comparison),
-    Refused(Cause),
+pub enum Graded<K> {
+    One(K),
+    Two(K, K, Comparison),
 }
 
-fn or_refused(answer: Result<Answer, Refusal>) -> Answer
-    ensures { result ≡ or_refused answer }
-{
-    match answer {
-        Ok(answer) => answer,
-        Err(refusal) => Answer::Refused(refusal.cause),
+// Hands of three cards or of five.
+#[derive(Clone, Copy)]
+pub enum Answer {
+    Threes(Graded<ThreeClass>),
+    Fives(Graded<FiveClass>),
+}
+
+// Why a line has no answer.
+#[derive(Drop)]
+pub enum Unanswered {
+    OutOfMemory(AllocError),
+    Refused(Refusal),
+}
+
+impl From<AllocError> for Unanswered {
+    ghost from_gives = { λ error why. why ≡ OutOfMemory error };
+
+    fn from(error: AllocError) -> Unanswered {
+        Unanswered::OutOfMemory(error)
     }
 }
 
-fn compare_threes(first: &[u8], second: &[u8]) -> Result<Answer, Refusal>
-    ensures { result ≡ of_threes (three_compared first.now second.now) (three_class first.now) (three_class second.now) }
-{
-    let comparison = three_compare(first, second)?;
-    let first_class = three_class(first)?;
-    let second_class = three_class(second)?;
-    Ok(Answer::ThreeAndThree(first_class, second_class, comparison))
+impl From<Refusal> for Unanswered {
+    ghost from_gives = { λ refusal why. why ≡ Refused refusal };
+
+    fn from(refusal: Refusal) -> Unanswered {
+        Unanswered::Refused(refusal)
+    }
 }
 
-fn compare_fives(first: &[u8], second: &[u8]) -> Result<Answer, Refusal>
-    ensures { result ≡ of_fives (five_compared first.now second.now) (five_class first.now) (five_class second.now) }
+fn grade_one<H: Hand>(cards: &[u8]) -> Result<Graded<H::Class>, Refusal>
+    ensures { result ≡ one_graded (H.classed cards.now) }
 {
-    let comparison = five_compare(first, second)?;
-    let first_class = five_class(first)?;
-    let second_class = five_class(second)?;
-    Ok(Answer::FiveAndFive(first_class, second_class, comparison))
+    Ok(Graded::One(class::<H>(cards)?))
+}
+
+fn grade_two<H: Hand>(first: &[u8], second: &[u8]) -> Result<Graded<H::Class>, Refusal>
+    ensures { result ≡ two_graded (H.compared first.now second.now) (H.classed first.now) (H.classed second.now) }
+{
+    let comparison = compare::<H>(first, second)?;
+    let first_class = class::<H>(first)?;
+    let second_class = class::<H>(second)?;
+    Ok(Graded::Two(first_class, second_class, comparison))
 }
 
 // One hand, graded at five cards if it has five, and else at three.
@@ -52,11 +68,10 @@ fn answer_one(cards: &[u8]) -> Result<Answer, Refusal>
     ensures { result ≡ one_hand cards.now }
 {
     if cards.len() == 5 {
-        let class = five_class(cards)?;
-        return Ok(Answer::FiveCards(class));
+        Ok(Answer::Fives(grade_one::<FiveHand>(cards)?))
+    } else {
+        Ok(Answer::Threes(grade_one::<ThreeHand>(cards)?))
     }
-    let class = three_class(cards)?;
-    Ok(Answer::ThreeCards(class))
 }
 
 // Two hands, graded at five cards if either has five, and else at three.
@@ -64,26 +79,40 @@ fn answer_two(first: &[u8], second: &[u8]) -> Result<Answer, Refusal>
     ensures { result ≡ two_hands first.now second.now }
 {
     if first.len() == 5 || second.len() == 5 {
-        return compare_fives(first, second);
+        Ok(Answer::Fives(grade_two::<FiveHand>(first, second)?))
+    } else {
+        Ok(Answer::Threes(grade_two::<ThreeHand>(first, second)?))
     }
-    compare_threes(first, second)
 }
 
-// The answer for a line.
-pub fn answer_line(heap: Global, line: &[u8]) -> Result<Answer, AllocError>
-    ensures { IfOk result (λ answer. answer ≡ line_answer line.now) }
+// The answer for the text of one hand; none, if there is no word in it.
+fn answer_text(heap: Global, text: &[u8]) -> Result<Option<Answer>, Unanswered>
+    ensures { IsAnswer result (text_answer text.now) }
 {
-    let bar = bar_of(line);
-    if bar < line.len() {
-        let first = read_cards(heap, &line[0..bar])?;
-        let second = read_cards(heap, &line[bar + 1..])?;
-        return Ok(or_refused(answer_two(first.as_slice(), second.as_slice())));
-    }
-    let cards = read_cards(heap, line)?;
+    let cards = read_cards(heap, text)?;
     if cards.is_empty() {
-        return Ok(Answer::Nothing);
+        return Ok(None);
     }
-    Ok(or_refused(answer_one(cards.as_slice())))
+    Ok(Some(answer_one(cards.as_slice())?))
+}
+
+// The answer for the texts of two hands.
+fn answer_texts(heap: Global, first: &[u8], second: &[u8]) -> Result<Option<Answer>, Unanswered>
+    ensures { IsAnswer result (texts_answer first.now second.now) }
+{
+    let first = read_cards(heap, first)?;
+    let second = read_cards(heap, second)?;
+    Ok(Some(answer_two(first.as_slice(), second.as_slice())?))
+}
+
+// The answer for a line; none, if there is no word on it.
+pub fn answer_line(heap: Global, line: &[u8]) -> Result<Option<Answer>, Unanswered>
+    ensures { IsAnswer result (line_answer line.now) }
+{
+    match bar_of(line) {
+        Some(bar) => answer_texts(heap, &line[..bar], &line[bar + 1..]),
+        None => answer_text(heap, line),
+    }
 }
 
 // Which of two hands is higher, in a word.
@@ -101,9 +130,48 @@ pub fn outcome(comparison: Comparison) -> &'static str
 pub fn meaning(cause: Cause) -> &'static str
     ensures { result.now ≡ meaning_words cause }
 {
-    if cause.number() == 12 {
-        "a word is no card, or a hand has one card twice"
-    } else {
-        "a hand has neither three nor five cards, or two hands differ in size"
+    match cause {
+        Cause::NoCard => "a word is no card, or a hand has one card twice",
+        _ => "a hand has neither three nor five cards, or two hands differ in size",
+    }
+}
+
+impl<K: HandClass> fmt::Display for Graded<K> {
+    ghost output = { λ graded. Some (graded_text K.words graded) };
+
+    fn fmt<W: fmt::Write>(&self, f: &mut fmt::Formatter<W>) -> fmt::Result {
+        match self {
+            Graded::One(class) => write!(f, "{class}"),
+            Graded::Two(first, second, comparison) => {
+                let outcome = outcome(*comparison);
+                write!(f, "{first} | {second} | {outcome}")
+            }
+        }
+    }
+}
+
+impl fmt::Display for Answer {
+    ghost output = { λ answer. Some (said answer) };
+
+    fn fmt<W: fmt::Write>(&self, f: &mut fmt::Formatter<W>) -> fmt::Result {
+        match self {
+            Answer::Threes(graded) => write!(f, "{graded}"),
+            Answer::Fives(graded) => write!(f, "{graded}"),
+        }
+    }
+}
+
+impl fmt::Display for Unanswered {
+    ghost output = { λ why. Some (why_said why) };
+
+    fn fmt<W: fmt::Write>(&self, f: &mut fmt::Formatter<W>) -> fmt::Result {
+        match self {
+            Unanswered::OutOfMemory(_) => write!(f, "out of memory"),
+            Unanswered::Refused(refusal) => {
+                let number = refusal.cause.number();
+                let meaning = meaning(refusal.cause);
+                write!(f, "refused {number}: {meaning}")
+            }
+        }
     }
 }

@@ -1,11 +1,11 @@
 // A line of text: words between blanks, read as cards, and a bar between two hands.
-ghost use Rattle.std.specs.Prelude.{◌≡◌, ◌++◌, IfOk, OnOk};
-ghost use Rattle.grade.specs.Lines.{is_blank, word_read, cards_read, bar_at};
+ghost use Rattle.std.specs.Prelude.{◌≡◌, IfOk};
+ghost use Rattle.grade.specs.Lines.{is_blank, cards_read, bar_of};
 
 use crate::words::card_of;
 use std::alloc::{AllocError, Global};
 
-// Stands in a hand for a word that names no card.
+// Stands in a hand for a word that names no card: a number and no Option, since it is for grading to refuse it, with its own cause.
 const NO_CARD: u8 = 0;
 
 fn is_blank(byte: u8) -> bool
@@ -14,41 +14,19 @@ fn is_blank(byte: u8) -> bool
     byte == b' ' || byte == b'\t' || byte == b'\r'
 }
 
-// Puts the card that a word names into the hand; an empty word puts nothing.
-fn read_word(cards: &mut Vec<u8>, word: &[u8]) -> Result<(), AllocError>
-    ensures { OnOk result (cards.new.items ≡ cards.old.items ++ word_read word.now) }
-{
-    if word.is_empty() {
-        return Ok(());
-    }
-    cards.push(card_of(word).unwrap_or(NO_CARD))?;
-    Ok(())
-}
-
 // The cards of a text, in order.
 pub fn read_cards(heap: Global, text: &[u8]) -> Result<Vec<u8>, AllocError>
     ensures { IfOk result (λ cards. cards.items ≡ cards_read text.now) }
 {
-    let mut cards = Vec::new(heap);
-    let mut start = 0;
-    for i in 0..text.len() {
-        if is_blank(text[i]) {
-            read_word(&mut cards, &text[start..i])?;
-            start = i + 1;
-        }
-    }
-    read_word(&mut cards, &text[start..])?;
-    Ok(cards)
+    text.split(|byte| is_blank(*byte))
+        .filter(|word| !word.is_empty())
+        .map(|word| card_of(word).unwrap_or(NO_CARD))
+        .collect(heap)
 }
 
-// The place of the first bar, or the end.
-pub fn bar_of(line: &[u8]) -> usize
-    ensures { result ≡ bar_at line.now }
+// The place of the first bar, if there is one.
+pub fn bar_of(line: &[u8]) -> Option<usize>
+    ensures { result ≡ bar_of line.now }
 {
-    for (i, byte) in line.iter().enumerate() {
-        if *byte == b'|' {
-            return i;
-        }
-    }
-    line.len()
+    line.iter().position(|byte| *byte == b'|')
 }

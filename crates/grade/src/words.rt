@@ -2,15 +2,11 @@
 ghost use Rattle.std.specs.Prelude.{◌≡◌};
 ghost use Rattle.grade.specs.Words.{capital as capital_of, rank_named, suit_named, card_from, card_named, below};
 
-// A small letter as a capital, any other byte as it is.
+// A small letter as a capital, any other byte as it is; with the call in place the proof of `card_of` did not close.
 fn capital(byte: u8) -> u8
     ensures { result ≡ capital_of byte }
 {
-    if b'a' <= byte && byte <= b'z' {
-        byte - 32
-    } else {
-        byte
-    }
+    byte.to_ascii_uppercase()
 }
 
 // The rank that a digit or a capital names.
@@ -18,25 +14,15 @@ fn rank_of(byte: u8) -> Option<u8>
     ensures named { result ≡ rank_named byte }
     ensures bound { below 15 result }
 {
-    if b'2' <= byte && byte <= b'9' {
-        return Some(byte - b'0');
+    match byte {
+        b'2'..=b'9' => Some(byte - b'0'),
+        b'T' => Some(10),
+        b'J' => Some(11),
+        b'Q' => Some(12),
+        b'K' => Some(13),
+        b'A' => Some(14),
+        _ => None,
     }
-    if byte == b'T' {
-        return Some(10);
-    }
-    if byte == b'J' {
-        return Some(11);
-    }
-    if byte == b'Q' {
-        return Some(12);
-    }
-    if byte == b'K' {
-        return Some(13);
-    }
-    if byte == b'A' {
-        return Some(14);
-    }
-    None
 }
 
 // The suit that a capital names.
@@ -44,19 +30,13 @@ fn suit_of(byte: u8) -> Option<u8>
     ensures named { result ≡ suit_named byte }
     ensures bound { below 4 result }
 {
-    if byte == b'D' {
-        return Some(0);
+    match byte {
+        b'D' => Some(0),
+        b'C' => Some(1),
+        b'H' => Some(2),
+        b'S' => Some(3),
+        _ => None,
     }
-    if byte == b'C' {
-        return Some(1);
-    }
-    if byte == b'H' {
-        return Some(2);
-    }
-    if byte == b'S' {
-        return Some(3);
-    }
-    None
 }
 
 // The card of a rank and a suit, where both are named.
@@ -64,10 +44,7 @@ fn card_from(rank: Option<u8>, suit: Option<u8>) -> Option<u8>
     requires { (below 15 rank) × (below 4 suit) }
     ensures { result ≡ card_from rank suit }
 {
-    match (rank, suit) {
-        (Some(r), Some(s)) => Some(16 * r + s),
-        _ => None,
-    }
+    Some(16 * rank? + suit?)
 }
 
 // The card that a word names, as AS, 10h or tD.

@@ -1,33 +1,42 @@
--- A loop that looks at each byte in turn: what it knows at a turn, at its end, and where a byte fails.
-use Rattle.std.proofs.Common.{◌≡◌, ℕ, ◌+◌, ◌<◌, ◌≤◌, Bool, true, false, cond, List, length, get_or, take, drop, count_by, sym, ap, ◌∙◌, ⊎_elim, arith}
-use Rattle.std.proofs.lemmas.List.{length-take-le, length-drop, take_all}
-use Rattle.std.proofs.lemmas.List.Sums.{count_by-le-length, count_by_more_yes, count_by_more_no, sum_by-take-drop}
-use Rattle.std.proofs.lemmas.Bool.{both_ways, cases_Bool, eq-eqb, ne_eqb}
-use Rattle.grading.specs.Cards.{each}
+-- Each byte passes a test, or one does: as the library's words have it, and as the counts of cards have it.
+use Rattle.std.proofs.Common.{◌≡◌, ℕ, suc, ◌+◌, ◌*◌, ◌<◌, ◌≤◌, Bool, true, false, cond, not, ◌&&◌, ◌||◌, eqb, List, [], ◌∷◌, length, get_or, count_by, zero-add, sym, refl, ap, ◌∙◌, ⊎_elim, arith}
+use Rattle.std.specs.List.{list_all, list_any}
+use Rattle.std.proofs.lemmas.List.Folds.{list_all_at}
+use Rattle.std.proofs.lemmas.List.Sums.{count_by-le-length, sum_by-cons}
+use Rattle.std.proofs.lemmas.Bool.{both_ways, cases_Bool, ne_eqb}
+use Rattle.std.proofs.lemmas.Bool.Decides.{nat_tests}
+use Rattle.grading.specs.Cards.{each, copies_of, is_of, holds}
 
--- the first i bytes pass
-abbrev pub Passed : (ℕ → Bool) → List ℕ → ℕ → Type 0
-Passed p cs i = count_by p (take i cs) ≡ i
+one_more : (b : Bool) (n m : ℕ) → n ≤ m → (b && eqb n m) ≡ eqb (cond b 1 0 + n) (suc m)
+one_more true n m h = grind (arith, nat_tests)
+one_more false n m h = sym (ne_eqb (0 + n) (suc m) (λ e. omega (arith, e)))
 
-pub passed_more : (p : ℕ → Bool) (cs : List ℕ) (i : ℕ) → i < length cs → Passed p cs i → p (get_or cs i 0) ≡ true → Passed p cs (i + 1)
-passed_more p cs i h before here = count_by_more_yes p cs i 0 h here ∙ ap (λ n. n + 1) before
-
-pub each_from_passed : (p : ℕ → Bool) (cs : List ℕ) (i : ℕ) → i ≤ length cs → length cs ≤ i → Passed p cs i → each p cs ≡ true
-each_from_passed p cs i h end passed =
-    let all : count_by p cs ≡ i = ap (λ xs. count_by p xs) (sym (take_all i cs end)) ∙ passed in
-    eq-eqb (count_by p cs) (length cs) (omega arith)
-
-pub not_each : (p : ℕ → Bool) (cs : List ℕ) (i : ℕ) → i < length cs → p (get_or cs i 0) ≡ false → each p cs ≡ false
-not_each p cs i h fails =
-    let first = count_by_more_no p cs i 0 h fails in
-    let front = count_by-le-length p (take i cs) in
-    let back = count_by-le-length p (drop (i + 1) cs) in
-    let parts : count_by p (take (i + 1) cs) + count_by p (drop (i + 1) cs) ≡ count_by p cs = sum_by-take-drop (λ x. cond (p x) 1 0) cs (i + 1) in
-    let front_long : length (take i cs) ≡ i = length-take-le i cs (omega arith) in
-    let back_long = length-drop (i + 1) cs in
-    ne_eqb (count_by p cs) (length cs) (λ e. omega (arith, e))
+pub list_all_is_each : (p : ℕ → Bool) (cs : List ℕ) → list_all p cs ≡ each p cs
+list_all_is_each p [] = refl
+list_all_is_each p (c ∷ cs) =
+    ap (λ b. p c && b) (list_all_is_each p cs)
+    ∙ one_more (p c) (count_by p cs) (length cs) (count_by-le-length p cs)
+    ∙ ap (λ n. eqb n (length (c ∷ cs))) (sym (sum_by-cons (λ x. cond (p x) 1 0) c cs))
 
 -- each byte passes, so the byte at i does
 pub at_each : (p : ℕ → Bool) (cs : List ℕ) (i : ℕ) → each p cs ≡ true → i < length cs → p (get_or cs i 0) ≡ true
 at_each p cs i all h =
-    ⊎_elim (λ passes. passes) (λ fails. absurd (both_ways (each p cs) (not_each p cs i h fails) all)) (cases_Bool (p (get_or cs i 0)))
+    ⊎_elim
+    (λ passes. passes)
+    (λ fails. absurd (both_ways (list_all p cs) (list_all_at p cs i 0 h fails) (list_all_is_each p cs ∙ all)))
+    (cases_Bool (p (get_or cs i 0)))
+
+of_rank_and_suit : (c r s : ℕ) → s < 16 → is_of r s c ≡ eqb c (16 * r + s)
+of_rank_and_suit c r s h = grind (arith, nat_tests)
+
+or_more : (b : Bool) (n : ℕ) → (b || not (eqb n 0)) ≡ not (eqb (cond b 1 0 + n) 0)
+or_more true n = ap not (sym (ne_eqb (1 + n) 0 (λ e. omega (arith, e))))
+or_more false n = ap (λ m. not (eqb m 0)) (sym (zero-add n))
+
+-- a card of this rank and suit is among the cards
+pub any_is_held : (r s : ℕ) → s < 16 → (cs : List ℕ) → list_any (is_of r s) cs ≡ holds cs r s
+any_is_held r s h [] = refl
+any_is_held r s h (c ∷ cs) =
+    (λ i. of_rank_and_suit c r s h i || any_is_held r s h cs i)
+    ∙ or_more (eqb c (16 * r + s)) (copies_of (16 * r + s) cs)
+    ∙ ap (λ n. not (eqb n 0)) (sym (sum_by-cons (λ d. cond (eqb d (16 * r + s)) 1 0) c cs))

@@ -8,7 +8,8 @@ use Rattle.grading.specs.FiveClasses.{five_below}
 use Rattle.grading.specs.declared.five.Ranked.{Ranked}
 use Rattle.grading.specs.declared.five_classes.FiveClass.{FiveClass}
 use Rattle.grading.specs.declared.five_classes.FiveClass.TheVariants.{RoyalFlush, StraightFlush, Four, FullHouse, Flush, Straight, Three, TwoPairs, Pair, OddCards}
-use Rattle.grading.proofs.Finite.{both, both_left, both_right, implies, implied, true_from_T, below, below_at, same_list, list_from_same, among}
+use Rattle.grading.proofs.Alone.{Alone, Counted, tested, class_from_lower, alone}
+use Rattle.grading.proofs.Finite.{both, both_left, both_right, below, below_at, same_list, list_from_same, among}
 
 abbrev numbered : ℕ → FiveClass
 numbered zero = OddCards
@@ -46,25 +47,12 @@ few TwoPairs = lit< tt
 few Pair = lit< tt
 few OddCards = lit< tt
 
--- classes above equally many are one class
-pub class_from_below : (j k : FiveClass) → five_below j ≡ five_below k → j ≡ k
-class_from_below j k e = sym (back j) ∙ ap numbered e ∙ back k
+counted : Counted five_below numbered 10
+counted = record { back = back; few = few }
 
 -- the ranks held once, twice, three times and four times
 abbrev holding : List ℕ → List ℕ → List ℕ → List ℕ → Held
 holding o w t f = record { ones = o; twos = w; threes = t; fours = f }
-
--- cards of the class j are of the class k
-abbrev within : Option ℕ → Held → Bool → FiveClass → FiveClass → Bool
-within head h level k j = implies (five_is j head h level) (eqb (five_below j) (five_below k))
-
--- cards of whatever class are of the class k
-abbrev none_other : Option ℕ → Held → Bool → FiveClass → Bool
-none_other head h level k = below 10 (λ n. within head h level k (numbered n))
-
-within_from : (head : Option ℕ) (h : Held) (level : Bool) (k j : FiveClass) → T (none_other head h level k) → T (within head h level k j)
-within_from head h level k j t =
-    subst (λ x. T (within head h level k x)) (back j) (below_at 10 (λ n. within head h level k (numbered n)) t (five_below j) (few j))
 
 -- ---- the ranks that are held so often, told by which of five ranks, from the highest, are alike
 
@@ -147,27 +135,24 @@ held_is_sorted a b c d e f =
 
 -- ---- the class and the ranks of such a hand
 
+-- cards are of this class, and of no other
+abbrev Sole : Bool → Option ℕ → Held → FiveClass → Type 0
+Sole level head h k = Alone (λ j. five_is j head h level) k
+
 -- x is the rule's class and ranks of cards that hold these ranks, and they are of no other class
 record Ruled (level : Bool) (head : Option ℕ) (h : Held) (x : Ranked) : Type 0 where
   ranked : x ≡ five_ranked_by head h level
-  is : five_is (five_class_by head h level) head h level ≡ true
-  no_other : (j : FiveClass) → five_is j head h level ≡ true → j ≡ five_class_by head h level
+  sole : Sole level head h (five_class_by head h level)
 
-abbrev tested : Bool → Option ℕ → Held → FiveClass → Bool
-tested level head h k = both (five_is k head h level) (none_other head h level k)
+abbrev checked : Bool → Option ℕ → Held → FiveClass → Bool
+checked level head h k = tested five_below numbered 10 (λ j. five_is j head h level) k
 
 -- where the class computes to k
-ruled : (level : Bool) (head : Option ℕ) (h : Held) (x : Ranked) (k : FiveClass) → five_class_by head h level ≡ k → x ≡ five_ranked_at k head h → T (tested level head h k) → Ruled level head h x
-ruled level head h x k c r t =
-    let is : five_is k head h level ≡ true = true_from_T _ (both_left (five_is k head h level) (none_other head h level k) t) in
-    record {
-      ranked = r ∙ ap (λ y. five_ranked_at y head h) (sym c);
-      is = subst (λ y. five_is y head h level ≡ true) (sym c) is;
-      no_other = λ j e.
-          class_from_below j k
-          (eqb→eq (five_below j) (five_below k) (implied _ _ (within_from head h level k j (both_right (five_is k head h level) (none_other head h level k) t)) e))
-          ∙ sym c;
-    }
+ruled : (level : Bool) (head : Option ℕ) (h : Held) (x : Ranked) (k : FiveClass) → five_class_by head h level ≡ k → x ≡ five_ranked_at k head h → T (checked level head h k) → Ruled level head h x
+ruled level head h x k c r t = record {
+  ranked = r ∙ ap (λ y. five_ranked_at y head h) (sym c);
+  sole = subst (Sole level head h) (sym c) (alone five_below numbered 10 counted (λ j. five_is j head h level) k t);
+}
 
 module _ (level : Bool) where
   abbrev Right : Held → Ranked → Type 0
@@ -212,7 +197,7 @@ same_ranked g h = both (eqb (five_below g.class) (five_below h.class)) (same_lis
 
 ranked_from_same : (g h : Ranked) → T (same_ranked g h) → g ≡ h
 ranked_from_same g h t =
-    let class : g.class ≡ h.class = class_from_below _ _ (eqb→eq _ _ (both_left _ _ t)) in
+    let class : g.class ≡ h.class = class_from_lower five_below numbered 10 counted _ _ (eqb→eq _ _ (both_left _ _ t)) in
     let ranks : g.ranks ≡ h.ranks = list_from_same _ _ (both_right _ _ t) in
     λ i. record { class = class i; ranks = ranks i }
 
@@ -225,7 +210,7 @@ Small (Some n) = n < 15
 abbrev headed_at : Bool → ℕ → ℕ → ℕ → ℕ → ℕ → ℕ → FiveClass → Bool
 headed_at level a b c d e n k =
     both (same_ranked (five_apart (Some n) a b c d e level) (five_ranked_at k (Some n) (holding (a ∷ b ∷ c ∷ d ∷ e ∷ []) [] [] [])))
-    (tested level (Some n) (holding (a ∷ b ∷ c ∷ d ∷ e ∷ []) [] [] []) k)
+    (checked level (Some n) (holding (a ∷ b ∷ c ∷ d ∷ e ∷ []) [] [] []) k)
 
 abbrev headed : Bool → ℕ → ℕ → ℕ → ℕ → ℕ → ℕ → Bool
 headed level a b c d e n = headed_at level a b c d e n (five_class_by (Some n) (holding (a ∷ b ∷ c ∷ d ∷ e ∷ []) [] [] []) level)
@@ -241,7 +226,7 @@ apart_ruled level a b c d e (Some n) small =
     let h = holding (a ∷ b ∷ c ∷ d ∷ e ∷ []) [] [] [] in
     let k = five_class_by (Some n) h level in
     let t = below_at 15 (headed level a b c d e) (every_head level a b c d e) n small in
-    let same : T (same_ranked (five_apart (Some n) a b c d e level) (five_ranked_at k (Some n) h)) = both_left _ (tested level (Some n) h k) t in
+    let same : T (same_ranked (five_apart (Some n) a b c d e level) (five_ranked_at k (Some n) h)) = both_left _ (checked level (Some n) h k) t in
     ruled level (Some n) h (five_apart (Some n) a b c d e level) k refl (ranked_from_same _ _ same) (both_right (same_ranked (five_apart (Some n) a b c d e level) (five_ranked_at k (Some n) h)) _ t)
 
 small_head : (s t : Bool) (a : ℕ) → a < 15 → Small (cond s (Some a) (cond t (Some 5) None))
@@ -253,9 +238,8 @@ apart_right : (level : Bool) (a b c d e : ℕ) → a < 15 → Right level (holdi
 apart_right level a b c d e h = apart_ruled level a b c d e (head_at 5 a b e) (small_head (eqb a (e + 4)) (eqb a 14 && eqb b 5) a h)
 
 -- cards that hold these ranks are of the class that the rule gives them, and of no other
-pub record Only (level : Bool) (h : Held) : Type 0 where
-  pub is : five_is (five_class_by (sequence 5 h.ones) h level) (sequence 5 h.ones) h level ≡ true
-  pub no_other : (j : FiveClass) → five_is j (sequence 5 h.ones) h level ≡ true → j ≡ five_class_by (sequence 5 h.ones) h level
+abbrev pub Only : Bool → Held → Type 0
+Only level h = Sole level (sequence 5 h.ones) h (five_class_by (sequence 5 h.ones) h level)
 
 -- the code's class and ranks are the rule's, and the cards are of no other class
 sorted_right : (level : Bool) (a b c d e : ℕ) → Falling a b c d e → Right level (held (among (a ∷ b ∷ c ∷ d ∷ e ∷ []))) (five_sorted a b c d e level)
@@ -271,4 +255,4 @@ pub sorted_is_rule : (level : Bool) (a b c d e : ℕ) → Falling a b c d e → 
 sorted_is_rule level a b c d e f = (sorted_right level a b c d e f).ranked
 
 pub of_one_class : (level : Bool) (a b c d e : ℕ) → Falling a b c d e → Only level (held (among (a ∷ b ∷ c ∷ d ∷ e ∷ [])))
-of_one_class level a b c d e f = let r = sorted_right level a b c d e f in record { is = r.is; no_other = r.no_other }
+of_one_class level a b c d e f = (sorted_right level a b c d e f).sole

@@ -1,8 +1,10 @@
+mod Fields
 mod Admitted
+mod Alone
 mod Each
 mod Finite
 mod FiveChecked
-pub mod Hands
+pub mod InOrder
 pub mod Laws
 mod Shuffles
 mod ThreeChecked

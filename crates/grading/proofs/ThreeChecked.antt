@@ -1,5 +1,5 @@
 -- At all ranks of three cards, from the highest: the code's class and ranks are the rule's, and the cards are of that class and of no other.
-use Rattle.std.proofs.Common.{◌≡◌, ℕ, zero, suc, ◌+◌, ◌-◌, ◌<◌, ◌≤◌, Bool, true, false, T, eqb, [], ◌∷◌, Option, sym, refl, ap, ◌∙◌, subst, arith, lit<, eqb→eq}
+use Rattle.std.proofs.Common.{◌≡◌, ℕ, zero, suc, ◌+◌, ◌-◌, ◌<◌, ◌≤◌, Bool, true, false, T, eqb, [], ◌∷◌, Option, refl, subst, arith, lit<, eqb→eq}
 use Rattle.grading.specs.Ranks.{Held, held, sequence}
 use Rattle.grading.specs.Steps.{three_sorted}
 use Rattle.grading.specs.Three.{three_is, three_class_by, three_hand_at, three_hand_by}
@@ -7,7 +7,8 @@ use Rattle.grading.specs.ThreeClasses.{three_below}
 use Rattle.grading.specs.declared.three.ThreeHand.{ThreeHand}
 use Rattle.grading.specs.declared.three_classes.ThreeClass.{ThreeClass}
 use Rattle.grading.specs.declared.three_classes.ThreeClass.TheVariants.{StraightFlush, Three, Straight, Flush, Pair, OddCards}
-use Rattle.grading.proofs.Finite.{both, both_left, both_right, implies, implied, true_from_T, below, below_at, same_list, list_from_same, among}
+use Rattle.grading.proofs.Alone.{Alone, Counted, tested, class_from_lower, alone}
+use Rattle.grading.proofs.Finite.{both, both_left, both_right, below, below_at, same_list, list_from_same, among}
 
 abbrev numbered : ℕ → ThreeClass
 numbered zero = OddCards
@@ -33,33 +34,20 @@ few Flush = lit< tt
 few Pair = lit< tt
 few OddCards = lit< tt
 
--- classes above equally many are one class
-pub class_from_below : (j k : ThreeClass) → three_below j ≡ three_below k → j ≡ k
-class_from_below j k e = sym (back j) ∙ ap numbered e ∙ back k
+counted : Counted three_below numbered 6
+counted = record { back = back; few = few }
 
 abbrev same : ThreeHand → ThreeHand → Bool
 same g h = both (eqb (three_below g.class) (three_below h.class)) (same_list g.ranks h.ranks)
 
 from_same : (g h : ThreeHand) → T (same g h) → g ≡ h
 from_same g h t =
-    let class : g.class ≡ h.class = class_from_below _ _ (eqb→eq _ _ (both_left _ _ t)) in
+    let class : g.class ≡ h.class = class_from_lower three_below numbered 6 counted _ _ (eqb→eq _ _ (both_left _ _ t)) in
     let ranks : g.ranks ≡ h.ranks = list_from_same _ _ (both_right _ _ t) in
     λ i. record { class = class i; ranks = ranks i }
 
--- cards of the class j are of the class k
-abbrev within : Option ℕ → Held → Bool → ThreeClass → ThreeClass → Bool
-within head h level k j = implies (three_is j head h level) (eqb (three_below j) (three_below k))
-
--- cards of whatever class are of the class k
-abbrev none_other : Option ℕ → Held → Bool → ThreeClass → Bool
-none_other head h level k = below 6 (λ n. within head h level k (numbered n))
-
-within_from : (head : Option ℕ) (h : Held) (level : Bool) (k j : ThreeClass) → T (none_other head h level k) → T (within head h level k j)
-within_from head h level k j t =
-    subst (λ x. T (within head h level k x)) (back j) (below_at 6 (λ n. within head h level k (numbered n)) t (three_below j) (few j))
-
 abbrev agrees_at : Bool → ℕ → ℕ → ℕ → Option ℕ → Held → ThreeClass → Bool
-agrees_at level a b c head h k = both (same (three_sorted a b c level) (three_hand_at k head h)) (both (three_is k head h level) (none_other head h level k))
+agrees_at level a b c head h k = both (same (three_sorted a b c level) (three_hand_at k head h)) (tested three_below numbered 6 (λ j. three_is j head h level) k)
 
 abbrev agrees_by : Bool → ℕ → ℕ → ℕ → Option ℕ → Held → Bool
 agrees_by level a b c head h = agrees_at level a b c head h (three_class_by head h level)
@@ -110,9 +98,8 @@ at_ranks level a b c f =
     subst (λ x. T (agrees level a b x)) (back_up c (omega arith)) s_b
 
 -- cards that hold these ranks are of the class that the rule gives them, and of no other
-pub record Only (level : Bool) (h : Held) : Type 0 where
-  pub is : three_is (three_class_by (sequence 3 h.ones) h level) (sequence 3 h.ones) h level ≡ true
-  pub no_other : (j : ThreeClass) → three_is j (sequence 3 h.ones) h level ≡ true → j ≡ three_class_by (sequence 3 h.ones) h level
+abbrev pub Only : Bool → Held → Type 0
+Only level h = Alone (λ j. three_is j (sequence 3 h.ones) h level) (three_class_by (sequence 3 h.ones) h level)
 
 -- the code's class and ranks are the rule's
 pub sorted_is_rule : (level : Bool) (a b c : ℕ) → Falling a b c → three_sorted a b c level ≡ three_hand_by (sequence 3 (held (among (a ∷ b ∷ c ∷ []))).ones) (held (among (a ∷ b ∷ c ∷ []))) level
@@ -120,14 +107,4 @@ sorted_is_rule level a b c f = from_same _ _ (both_left _ _ (at_ranks level a b 
 
 -- the cards are of the class that the rule gives them, and of no other
 pub of_one_class : (level : Bool) (a b c : ℕ) → Falling a b c → Only level (held (among (a ∷ b ∷ c ∷ [])))
-of_one_class level a b c f =
-    let h = held (among (a ∷ b ∷ c ∷ [])) in
-    let head = sequence 3 h.ones in
-    let k = three_class_by head h level in
-    let t : T (both (three_is k head h level) (none_other head h level k)) = both_right _ _ (at_ranks level a b c f) in
-    record {
-      is = true_from_T _ (both_left (three_is k head h level) (none_other head h level k) t);
-      no_other = λ j e.
-          class_from_below j k
-          (eqb→eq (three_below j) (three_below k) (implied _ _ (within_from head h level k j (both_right (three_is k head h level) (none_other head h level k) t)) e));
-    }
+of_one_class level a b c f = alone three_below numbered 6 counted _ _ (both_right _ _ (at_ranks level a b c f))

@@ -41,6 +41,10 @@ one_suit cs = all_of_suit 0 cs || (all_of_suit 1 cs || (all_of_suit 2 cs || all_
 abbrev pub tally : List ℕ → ℕ → ℕ
 tally cs r = count_by (λ c. nat_eq (rank_of c) r) cs
 
+-- a card is of this rank and suit
+abbrev pub is_of : ℕ → ℕ → ℕ → Bool
+is_of r s c = rank_of c == r && suit_of c == s
+
 -- the card of this rank and suit is among the cards
 abbrev pub holds : List ℕ → ℕ → ℕ → Bool
 holds cs r s = not (copies_of (16 * r + s) cs == 0)

@@ -1,5 +1,5 @@
 -- Laws of grading: the order of the cards does not matter, each hand is of one class only, and a higher class beats a lower one.
-use Rattle.std.specs.Prelude.{◌≡◌, ℕ, ◌<◌, true, false, List, Ok, Err, Result, MatchResult}
+use Rattle.std.specs.Prelude.{◌≡◌, ℕ, ◌<◌, Bool, true, false, List, Ok, Err, Result, MatchResult}
 use Rattle.std.specs.List.Sorted.{IsPermutation}
 use Rattle.refusals.specs.declared.Refusal.{Refusal}
 use Rattle.grading.specs.Admission.{is_hand}
@@ -19,15 +19,18 @@ InAnyOrder f cs r = (es : List ℕ) → IsPermutation cs es → f es ≡ r
 abbrev pub InAnyOrders : {X : Type 0} → (List ℕ → List ℕ → X) → List ℕ → List ℕ → X → Type 0
 InAnyOrders f cs ds r = (es fs : List ℕ) → IsPermutation cs es → IsPermutation ds fs → f es fs ≡ r
 
+-- cards are of the class k, and of no other
+pub record Only {K : Type 0} (is_of : K → List ℕ → Bool) (cs : List ℕ) (k : K) : Type 0 where
+  pub is : is_of k cs ≡ true
+  pub no_other : (j : K) → is_of j cs ≡ true → j ≡ k
+
 -- three cards are of the class k, and of no other
-pub record ThreeOnly (cs : List ℕ) (k : ThreeClass) : Type 0 where
-  pub is : three_of k cs ≡ true
-  pub no_other : (j : ThreeClass) → three_of j cs ≡ true → j ≡ k
+abbrev pub ThreeOnly : List ℕ → ThreeClass → Type 0
+ThreeOnly cs k = Only three_of cs k
 
 -- five cards are of the class k, and of no other
-pub record FiveOnly (cs : List ℕ) (k : FiveClass) : Type 0 where
-  pub is : five_of k cs ≡ true
-  pub no_other : (j : FiveClass) → five_of j cs ≡ true → j ≡ k
+abbrev pub FiveOnly : List ℕ → FiveClass → Type 0
+FiveOnly cs k = Only five_of cs k
 
 -- n different cards have a class of which alone they are, and any other bytes have none
 abbrev pub OfOneClass : {K : Type 0} → (List ℕ → K → Type 0) → ℕ → List ℕ → Result K Refusal → Type 0

@@ -1,8 +1,9 @@
 -- Laws of the comparison part by part, and the same comparison as the code makes it.
-use Rattle.std.specs.Prelude.{◌≡◌, ℕ, List, refl}
+use Rattle.std.specs.Prelude.{◌≡◌, ℕ, ◌<◌, List, [], ◌∷◌, refl}
 use Rattle.std.specs.declared.cmp.Ordering.TheVariants.{Less, Equal, Greater}
 use Rattle.std.specs.declared.cmp.Ordering.{Ordering}
-use Rattle.std.proofs.Common.{sym, ap, ◌∙◌}
+use Rattle.std.proofs.Common.{sym, ap, ◌∙◌, arith}
+use Rattle.std.proofs.lemmas.Bool.Decides.{nat_tests}
 use Rattle.std.specs.Cmp.{nat_cmp_total}
 use Rattle.std.specs.Cmp.Lexicographic.{slice_cmp, lists_total}
 use Rattle.std.specs.Ordering.{ordering_reverse, ordering_then, nat_cmp}
@@ -38,6 +39,13 @@ by_parts_chained ms ns ls p q =
 
 pub by_parts_alike : (ms ns ls : List (List ℕ)) → by_parts ms ns ≡ Alike → by_parts ms ls ≡ by_parts ns ls
 by_parts_alike ms ns ls p = ap as_comparison ((lists_total (lists_total nat_cmp_total)).congr ms ns ls (ordering_from _ Alike p))
+
+above : (m n : ℕ) → n < m → nat_cmp m n ≡ Greater
+above m n h = grind (arith, nat_tests)
+
+-- where the first parts are single numbers that differ, they decide
+pub by_parts_first : (m n : ℕ) (ms ns : List (List ℕ)) → n < m → by_parts ((m ∷ []) ∷ ms) ((n ∷ []) ∷ ns) ≡ Higher
+by_parts_first m n ms ns h = ap (λ o. as_comparison (ordering_then (ordering_then o Equal) (slice_cmp (slice_cmp nat_cmp) ms ns))) (above m n h)
 
 -- class and then ranks
 pub two_steps : (class ranks : Ordering) → ordering_then class ranks ≡ ordering_then (ordering_then class Equal) (ordering_then ranks Equal)

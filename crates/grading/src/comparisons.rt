@@ -4,7 +4,7 @@ ghost use Rattle.grading.specs.Order.{as_comparison};
 
 use std::cmp::Ordering;
 
-// How the first of two hands compares with the second.
+// How the first of two hands compares with the second: an enum of its own and no Ordering, since its words are the rules', and hands of other cards may be alike.
 #[derive(Clone, Copy, PartialEq, Eq, Debug)]
 pub enum Comparison {
     Lower,
@@ -12,11 +12,11 @@ pub enum Comparison {
     Higher,
 }
 
-impl Comparison {
-    // The answer for hands, from the answer for the numbers that stand for them.
-    pub(crate) fn of_numbers(answer: Ordering) -> Comparison
-        ensures { result ≡ as_comparison answer }
-    {
+// The greater of two graded hands is the higher.
+impl From<Ordering> for Comparison {
+    ghost from_gives = { λ answer comparison. comparison ≡ as_comparison answer };
+
+    fn from(answer: Ordering) -> Comparison {
         match answer {
             Ordering::Less => Comparison::Lower,
             Ordering::Equal => Comparison::Alike,

@@ -1,33 +1,31 @@
 // Hands of five cards: grading them, and their order.
-ghost use Rattle.std.specs.Prelude.{◌≡◌, ◌≤◌, true, slice_index};
+ghost use Rattle.std.specs.Prelude.{◌≡◌, ◌≤◌, true, [], ◌∷◌, refl};
 ghost use Rattle.grading.specs.Admission.{is_hand};
-ghost use Rattle.grading.specs.Five.{five_hand, five_order, five_ranked, suit_counts, deciding_suit, five_parts};
+ghost use Rattle.grading.specs.Five.{five_hand, five_of, five_order, five_ranked, suit_counts, deciding_suit, five_parts};
 ghost use Rattle.grading.specs.FiveClasses.{five_below};
 ghost use Rattle.grading.specs.Grading.{five_graded, five_class, five_compared};
-ghost use Rattle.grading.specs.Laws.{FiveOnly, InAnyOrder, InAnyOrders, OfOneClass, HigherClassWins, swapped as answer_swapped};
-ghost use Rattle.grading.specs.Order.{as_comparison};
+ghost use Rattle.grading.specs.Laws.{FiveOnly};
 ghost use Rattle.grading.specs.Steps.{five_at, five_sorted, five_paired};
-ghost use Rattle.grading.specs.Parts.{by_parts_turned, by_parts_chained, by_parts_alike};
+ghost use Rattle.grading.specs.Parts.{by_parts_turned, by_parts_chained, by_parts_alike, by_parts_first};
 
-use crate::admission::{admit, admit_both};
-use crate::cards::{are_of_one_suit, highest_suit};
+use crate::cards::{are_of_one_suit, highest_suit, rank_of};
 use crate::comparisons::Comparison;
 use crate::five_classes::FiveClass;
+use crate::hands::Hand;
+use crate::of_cards::OfCards;
 use crate::order::Order;
-use crate::ranks::{head_of, put_in_order};
-use refusals::Refusal;
-use std::cmp::Ordering;
+use crate::ranks::{head_of, in_order};
 
 // A graded hand: its class, the ranks that it is compared by within the class, 0 in places not in use, and the suit that decides
-// where these are level, 0 where none does.
-#[derive(Clone, Copy)]
+// where these are level, 0 where none does: zeros and no Option, so that hands compare as these parts do, in order.
+#[derive(Clone, Copy, PartialEq, Eq, PartialOrd, Ord)]
 pub struct FiveHand {
     class: FiveClass,
     ranks: [u8; 5],
     suit: u8,
 }
 
-// What ranks alone, and whether the cards are of one suit, tell of a hand.
+// What ranks alone, and whether the cards are of one suit, tell of a hand: no hand yet, which has a suit besides.
 #[derive(Clone, Copy)]
 struct Ranked {
     class: FiveClass,
@@ -46,9 +44,7 @@ fn by_one_rank(class: FiveClass, rank: u8) -> Ranked
 
 // Five ranks from the highest, of which some are alike, but no three.
 fn by_pairs(a: u8, b: u8, c: u8, d: u8, e: u8) -> Ranked
-    requires { (a ≤ 15) × ((b ≤ 15) × ((c ≤ 15) × (d ≤ 15))) }
-    ensures ranked { result ≡ five_paired a b c d e }
-    ensures rank { slice_index result.ranks 0 ≤ 15 }
+    ensures { result ≡ five_paired a b c d e }
 {
     if a == b && c == d {
         return Ranked {
@@ -94,9 +90,8 @@ fn by_pairs(a: u8, b: u8, c: u8, d: u8, e: u8) -> Ranked
 
 // Five ranks from the highest, of one suit or not.
 fn by_ranks(a: u8, b: u8, c: u8, d: u8, e: u8, one_suit: bool) -> Ranked
-    requires { (a ≤ 15) × ((b ≤ 15) × ((c ≤ 15) × ((d ≤ 15) × (e ≤ 15)))) }
-    ensures ranked { result ≡ five_sorted a b c d e one_suit }
-    ensures rank { slice_index result.ranks 0 ≤ 15 }
+    requires { e ≤ 15 }
+    ensures { result ≡ five_sorted a b c d e one_suit }
 {
     if a == d || b == e {
         return by_one_rank(FiveClass::Four, c);
@@ -150,23 +145,20 @@ fn ranks_of(cards: &[u8]) -> Ranked
     requires { is_hand 5 cards.now ≡ true }
     ensures ranked { result ≡ five_ranked cards.now }
     ensures only { FiveOnly cards.now result.class }
-    ensures rank { slice_index result.ranks 0 ≤ 15 }
 {
-    let mut sorted = [cards[0], cards[1], cards[2], cards[3], cards[4]];
-    put_in_order(&mut sorted);
+    let [e, d, c, b, a] = in_order::<5>(cards);
     by_ranks(
-        sorted[4] / 16,
-        sorted[3] / 16,
-        sorted[2] / 16,
-        sorted[1] / 16,
-        sorted[0] / 16,
+        rank_of(a),
+        rank_of(b),
+        rank_of(c),
+        rank_of(d),
+        rank_of(e),
         are_of_one_suit(cards),
     )
 }
 
 // The suit that decides where ranks are level: the highest in which the cards hold the first rank that they are compared by.
 fn deciding_suit(ranked: Ranked, cards: &[u8]) -> u8
-    requires { slice_index ranked.ranks 0 ≤ 15 }
     ensures { result ≡ deciding_suit ranked cards.now }
 {
     if suit_counts(ranked.class) {
@@ -176,66 +168,48 @@ fn deciding_suit(ranked: Ranked, cards: &[u8]) -> u8
     }
 }
 
-// The graded hand of five different cards.
-fn of_five(cards: &[u8]) -> FiveHand
-    requires { is_hand 5 cards.now ≡ true }
-    ensures hand { result ≡ five_hand cards.now }
-    ensures only { FiveOnly cards.now result.class }
-{
-    let ranked = ranks_of(cards);
-    let suit = deciding_suit(ranked, cards);
-    let Ranked { class, ranks } = ranked;
-    FiveHand { class, ranks, suit }
+impl OfCards for FiveHand {
+    type Class = FiveClass;
+
+    ghost SIZE = { 5 };
+
+    ghost hand = { five_hand };
+
+    ghost class_of = { λ h. h.class };
+
+    ghost is_of = { five_of };
+
+    const SIZE: usize = 5;
+
+    fn of_cards(cards: &[u8]) -> FiveHand {
+        let ranked = ranks_of(cards);
+        let suit = deciding_suit(ranked, cards);
+        let Ranked { class, ranks } = ranked;
+        FiveHand { class, ranks, suit }
+    }
 }
 
-// Grades five cards; refuses a byte that is no card or stands there twice with 12, before any other number of cards with 13.
-pub fn grade_five(cards: &[u8]) -> Result<FiveHand, Refusal>
-    ensures { result ≡ five_graded cards.now }
-{
-    admit(5, cards)?;
-    Ok(of_five(cards))
-}
+impl Hand for FiveHand {
+    ghost graded = { five_graded };
 
-// The class of five cards; refuses as grading them does.
-pub fn five_class(cards: &[u8]) -> Result<FiveClass, Refusal>
-    ensures class { result ≡ five_class cards.now }
-    ensures any_order { InAnyOrder five_class cards.now result }
-    ensures one_class { OfOneClass FiveOnly 5 cards.now result }
-{
-    admit(5, cards)?;
-    Ok(of_five(cards).class)
-}
+    ghost classed = { five_class };
 
-// How the first of two hands of five cards compares with the second; refuses 12 for either before 13 for either.
-pub fn five_compare(first: &[u8], second: &[u8]) -> Result<Comparison, Refusal>
-    ensures answer { result ≡ five_compared first.now second.now }
-    ensures any_order { InAnyOrders five_compared first.now second.now result }
-    ensures swapped { five_compared second.now first.now ≡ answer_swapped result }
-    ensures classes { HigherClassWins five_below five_class first.now second.now result }
-{
-    admit_both(5, first, second)?;
-    Ok(of_five(first).compare(&of_five(second)))
-}
+    ghost compared = { five_compared };
 
-impl FiveHand {
-    // The class of the graded hand.
-    pub fn class(&self) -> FiveClass
-        ensures { result ≡ self.now.class }
-    {
+    ghost grades = { unfold five_graded in λ cs. refl };
+
+    ghost classes = { unfold five_class in λ cs. refl };
+
+    ghost compares = { unfold five_compared in λ cs ds. refl };
+
+    ghost by_class = { unfold five_order in λ x y. by_parts_first (five_below x.class) (five_below y.class) (x.ranks ∷ (x.suit ∷ []) ∷ []) (y.ranks ∷ (y.suit ∷ []) ∷ []) };
+
+    fn class(&self) -> FiveClass {
         self.class
     }
-
-    // Compares by class, then by ranks from the first, and then by the suit that decides.
-    fn compare_parts(&self, other: &FiveHand) -> Ordering
-        ensures { as_comparison result ≡ five_order self.now other.now }
-    {
-        let classes = self.class.below().cmp(&other.class.below());
-        classes
-            .then(self.ranks.cmp(&other.ranks))
-            .then(self.suit.cmp(&other.suit))
-    }
 }
 
+// Not one impl for all that are `Ord`: `compare` promises the order of this size by its own definition, `five_order`.
 impl Order for FiveHand {
     ghost order = { five_order };
 
@@ -246,6 +220,6 @@ impl Order for FiveHand {
     ghost alike = { unfold five_order in λ x y z. by_parts_alike (five_parts x) (five_parts y) (five_parts z) };
 
     fn compare(&self, other: &FiveHand) -> Comparison {
-        Comparison::of_numbers(self.compare_parts(other))
+        Comparison::from(self.cmp(other))
     }
 }

@@ -1,55 +1,58 @@
-// The classes of five cards, downward.
-ghost use Rattle.std.specs.Prelude.{◌≡◌};
+// The classes of five cards, upward.
+ghost use Rattle.std.specs.Prelude.{Some, refl};
+ghost use Rattle.std.proofs.Common.{rules};
 ghost use Rattle.grading.specs.FiveClasses.{five_word, five_below};
 
-#[derive(Clone, Copy, PartialEq, Eq, Debug)]
+use crate::classes::HandClass;
+use std::fmt;
+
+#[derive(Clone, Copy, PartialEq, Eq, PartialOrd, Ord, Debug)]
 pub enum FiveClass {
-    RoyalFlush,
-    StraightFlush,
-    Four,
-    FullHouse,
-    Flush,
-    Straight,
-    Three,
-    TwoPairs,
-    Pair,
     OddCards,
+    Pair,
+    TwoPairs,
+    Three,
+    Straight,
+    Flush,
+    FullHouse,
+    Four,
+    StraightFlush,
+    RoyalFlush,
 }
 
-impl FiveClass {
-    // The words for a class in print.
-    pub fn word(self) -> &'static str
-        ensures { result.now ≡ five_word self }
-    {
+impl HandClass for FiveClass {
+    ghost words = { five_word };
+
+    ghost lower = { five_below };
+
+    ghost printed = { λ k. refl };
+
+    ghost upward = { λ j k. Prim.search rules };
+
+    fn word(self) -> &'static str {
         match self {
-            FiveClass::RoyalFlush => "royal flush",
-            FiveClass::StraightFlush => "straight flush",
-            FiveClass::Four => "four of a kind",
-            FiveClass::FullHouse => "full house",
-            FiveClass::Flush => "flush",
-            FiveClass::Straight => "straight",
-            FiveClass::Three => "three of a kind",
-            FiveClass::TwoPairs => "two pairs",
-            FiveClass::Pair => "pair",
             FiveClass::OddCards => "odd cards",
+            FiveClass::Pair => "pair",
+            FiveClass::TwoPairs => "two pairs",
+            FiveClass::Three => "three of a kind",
+            FiveClass::Straight => "straight",
+            FiveClass::Flush => "flush",
+            FiveClass::FullHouse => "full house",
+            FiveClass::Four => "four of a kind",
+            FiveClass::StraightFlush => "straight flush",
+            FiveClass::RoyalFlush => "royal flush",
         }
     }
 
-    // How many classes are lower.
-    pub fn below(self) -> u8
-        ensures { result ≡ five_below self }
-    {
-        match self {
-            FiveClass::RoyalFlush => 9,
-            FiveClass::StraightFlush => 8,
-            FiveClass::Four => 7,
-            FiveClass::FullHouse => 6,
-            FiveClass::Flush => 5,
-            FiveClass::Straight => 4,
-            FiveClass::Three => 3,
-            FiveClass::TwoPairs => 2,
-            FiveClass::Pair => 1,
-            FiveClass::OddCards => 0,
-        }
+    fn below(self) -> u8 {
+        self as u8
+    }
+}
+
+impl fmt::Display for FiveClass {
+    ghost output = { λ k. Some (five_word k) };
+
+    fn fmt<W: fmt::Write>(&self, f: &mut fmt::Formatter<W>) -> fmt::Result {
+        f.write_str(self.word())
     }
 }

@@ -1,5 +1,5 @@
 // Ranks in a row, and cards in order.
-ghost use Rattle.std.specs.Prelude.{◌≡◌, ◌+◌, ◌<◌};
+ghost use Rattle.std.specs.Prelude.{◌≡◌, ◌+◌, ◌<◌, length};
 ghost use Rattle.std.specs.List.Sorted.{IsPermutation, IsNonDecreasing};
 ghost use Rattle.grading.specs.Ranks.{head_at};
 
@@ -19,10 +19,13 @@ pub(crate) fn head_of(size: u8, highest: u8, second: u8, lowest: u8) -> Option<u
     None
 }
 
-// Puts the cards into rising order: by rank, and within a rank by suit.
-pub(crate) fn put_in_order(cards: &mut [u8])
-    ensures shuffled { IsPermutation cards.old cards.new }
-    ensures up { IsNonDecreasing cards.new }
+// The cards in rising order: by rank, and within a rank by suit.
+pub(crate) fn in_order<const N: usize>(cards: &[u8]) -> [u8; N]
+    requires { length cards.now ≡ N }
+    ensures shuffled { IsPermutation cards.now result }
+    ensures up { IsNonDecreasing result }
 {
-    cards.sort_unstable();
+    let mut sorted: [u8; N] = cards.try_into().unwrap();
+    sorted.sort_unstable();
+    sorted
 }

@@ -1,25 +1,21 @@
 // Hands of three cards: grading them, and their order.
-ghost use Rattle.std.specs.Prelude.{◌≡◌, ◌≤◌, true};
-ghost use Rattle.grading.specs.Admission.{is_hand};
+ghost use Rattle.std.specs.Prelude.{◌≡◌, ◌≤◌, [], ◌∷◌, refl};
 ghost use Rattle.grading.specs.Grading.{three_graded, three_class, three_compared};
-ghost use Rattle.grading.specs.Laws.{ThreeOnly, InAnyOrder, InAnyOrders, OfOneClass, HigherClassWins, swapped as answer_swapped};
-ghost use Rattle.grading.specs.Order.{as_comparison};
 ghost use Rattle.grading.specs.Steps.{three_sorted};
-ghost use Rattle.grading.specs.Three.{three_hand, three_order, three_parts};
+ghost use Rattle.grading.specs.Three.{three_hand, three_of, three_order, three_parts};
 ghost use Rattle.grading.specs.ThreeClasses.{three_below};
-ghost use Rattle.grading.specs.Parts.{by_parts_turned, by_parts_chained, by_parts_alike};
+ghost use Rattle.grading.specs.Parts.{by_parts_turned, by_parts_chained, by_parts_alike, by_parts_first};
 
-use crate::admission::{admit, admit_both};
-use crate::cards::are_of_one_suit;
+use crate::cards::{are_of_one_suit, rank_of};
 use crate::comparisons::Comparison;
+use crate::hands::Hand;
+use crate::of_cards::OfCards;
 use crate::order::Order;
-use crate::ranks::{head_of, put_in_order};
+use crate::ranks::{head_of, in_order};
 use crate::three_classes::ThreeClass;
-use refusals::Refusal;
-use std::cmp::Ordering;
 
-// A graded hand: its class, and the ranks that it is compared by within the class, 0 in places not in use.
-#[derive(Clone, Copy)]
+// A graded hand: its class, and the ranks that it is compared by within the class, 0 in places not in use, so that all compare alike.
+#[derive(Clone, Copy, PartialEq, Eq, PartialOrd, Ord)]
 pub struct ThreeHand {
     class: ThreeClass,
     ranks: [u8; 3],
@@ -74,68 +70,51 @@ fn by_ranks(high: u8, middle: u8, low: u8, one_suit: bool) -> ThreeHand
     }
 }
 
-// The graded hand of three different cards.
-fn of_three(cards: &[u8]) -> ThreeHand
-    requires { is_hand 3 cards.now ≡ true }
-    ensures hand { result ≡ three_hand cards.now }
-    ensures only { ThreeOnly cards.now result.class }
-{
-    let mut sorted = [cards[0], cards[1], cards[2]];
-    put_in_order(&mut sorted);
-    by_ranks(
-        sorted[2] / 16,
-        sorted[1] / 16,
-        sorted[0] / 16,
-        are_of_one_suit(cards),
-    )
+impl OfCards for ThreeHand {
+    type Class = ThreeClass;
+
+    ghost SIZE = { 3 };
+
+    ghost hand = { three_hand };
+
+    ghost class_of = { λ h. h.class };
+
+    ghost is_of = { three_of };
+
+    const SIZE: usize = 3;
+
+    fn of_cards(cards: &[u8]) -> ThreeHand {
+        let [low, middle, high] = in_order::<3>(cards);
+        by_ranks(
+            rank_of(high),
+            rank_of(middle),
+            rank_of(low),
+            are_of_one_suit(cards),
+        )
+    }
 }
 
-// Grades three cards; refuses a byte that is no card or stands there twice with 12, before any other number of cards with 13.
-pub fn grade_three(cards: &[u8]) -> Result<ThreeHand, Refusal>
-    ensures { result ≡ three_graded cards.now }
-{
-    admit(3, cards)?;
-    Ok(of_three(cards))
-}
+impl Hand for ThreeHand {
+    ghost graded = { three_graded };
 
-// The class of three cards; refuses as grading them does.
-pub fn three_class(cards: &[u8]) -> Result<ThreeClass, Refusal>
-    ensures class { result ≡ three_class cards.now }
-    ensures any_order { InAnyOrder three_class cards.now result }
-    ensures one_class { OfOneClass ThreeOnly 3 cards.now result }
-{
-    admit(3, cards)?;
-    Ok(of_three(cards).class)
-}
+    ghost classed = { three_class };
 
-// How the first of two hands of three cards compares with the second; refuses 12 for either before 13 for either.
-pub fn three_compare(first: &[u8], second: &[u8]) -> Result<Comparison, Refusal>
-    ensures answer { result ≡ three_compared first.now second.now }
-    ensures any_order { InAnyOrders three_compared first.now second.now result }
-    ensures swapped { three_compared second.now first.now ≡ answer_swapped result }
-    ensures classes { HigherClassWins three_below three_class first.now second.now result }
-{
-    admit_both(3, first, second)?;
-    Ok(of_three(first).compare(&of_three(second)))
-}
+    ghost compared = { three_compared };
 
-impl ThreeHand {
-    // The class of the graded hand.
-    pub fn class(&self) -> ThreeClass
-        ensures { result ≡ self.now.class }
-    {
+    ghost grades = { unfold three_graded in λ cs. refl };
+
+    ghost classes = { unfold three_class in λ cs. refl };
+
+    ghost compares = { unfold three_compared in λ cs ds. refl };
+
+    ghost by_class = { unfold three_order in λ x y. by_parts_first (three_below x.class) (three_below y.class) (x.ranks ∷ []) (y.ranks ∷ []) };
+
+    fn class(&self) -> ThreeClass {
         self.class
     }
-
-    // Compares by class, and then by ranks from the first.
-    fn compare_parts(&self, other: &ThreeHand) -> Ordering
-        ensures { as_comparison result ≡ three_order self.now other.now }
-    {
-        let classes = self.class.below().cmp(&other.class.below());
-        classes.then(self.ranks.cmp(&other.ranks))
-    }
 }
 
+// Not one impl for all that are `Ord`: `compare` promises the order of this size by its own definition, `three_order`.
 impl Order for ThreeHand {
     ghost order = { three_order };
 
@@ -146,6 +125,6 @@ impl Order for ThreeHand {
     ghost alike = { unfold three_order in λ x y z. by_parts_alike (three_parts x) (three_parts y) (three_parts z) };
 
     fn compare(&self, other: &ThreeHand) -> Comparison {
-        Comparison::of_numbers(self.compare_parts(other))
+        Comparison::from(self.cmp(other))
     }
 }

@@ -1,43 +1,50 @@
-// The classes of three cards, downward.
-ghost use Rattle.std.specs.Prelude.{◌≡◌};
+// The classes of three cards, upward.
+ghost use Rattle.std.specs.Prelude.{Some, refl};
+ghost use Rattle.std.proofs.Common.{rules};
 ghost use Rattle.grading.specs.ThreeClasses.{three_word, three_below};
 
-#[derive(Clone, Copy, PartialEq, Eq, Debug)]
+use crate::classes::HandClass;
+use std::fmt;
+
+#[derive(Clone, Copy, PartialEq, Eq, PartialOrd, Ord, Debug)]
 pub enum ThreeClass {
-    StraightFlush,
-    Three,
-    Straight,
-    Flush,
-    Pair,
     OddCards,
+    Pair,
+    Flush,
+    Straight,
+    Three,
+    StraightFlush,
 }
 
-impl ThreeClass {
-    // The words for a class in print.
-    pub fn word(self) -> &'static str
-        ensures { result.now ≡ three_word self }
-    {
+impl HandClass for ThreeClass {
+    ghost words = { three_word };
+
+    ghost lower = { three_below };
+
+    ghost printed = { λ k. refl };
+
+    ghost upward = { λ j k. Prim.search rules };
+
+    fn word(self) -> &'static str {
         match self {
-            ThreeClass::StraightFlush => "straight flush",
-            ThreeClass::Three => "three of a kind",
-            ThreeClass::Straight => "straight",
-            ThreeClass::Flush => "flush",
-            ThreeClass::Pair => "pair",
             ThreeClass::OddCards => "odd cards",
+            ThreeClass::Pair => "pair",
+            ThreeClass::Flush => "flush",
+            ThreeClass::Straight => "straight",
+            ThreeClass::Three => "three of a kind",
+            ThreeClass::StraightFlush => "straight flush",
         }
     }
 
-    // How many classes are lower.
-    pub fn below(self) -> u8
-        ensures { result ≡ three_below self }
-    {
-        match self {
-            ThreeClass::StraightFlush => 5,
-            ThreeClass::Three => 4,
-            ThreeClass::Straight => 3,
-            ThreeClass::Flush => 2,
-            ThreeClass::Pair => 1,
-            ThreeClass::OddCards => 0,
-        }
+    fn below(self) -> u8 {
+        self as u8
+    }
+}
+
+impl fmt::Display for ThreeClass {
+    ghost output = { λ k. Some (three_word k) };
+
+    fn fmt<W: fmt::Write>(&self, f: &mut fmt::Formatter<W>) -> fmt::Result {
+        f.write_str(self.word())
     }
 }

@@ -3,7 +3,8 @@ ghost use Rattle.std.specs.Prelude.{◌≡◌};
 ghost use Rattle.grading.specs.Grading.{three_class, three_compared};
 
 use crate::comparisons::Comparison;
-use crate::three::{three_class, three_compare};
+use crate::hands;
+use crate::three::ThreeHand;
 use crate::three_classes::ThreeClass;
 use refusals::Refusal;
 
@@ -23,10 +24,10 @@ pub struct ByRule;
 
 impl ThreeGrading for ByRule {
     fn class(&self, cards: &[u8]) -> Result<ThreeClass, Refusal> {
-        three_class(cards)
+        hands::class::<ThreeHand>(cards)
     }
 
     fn compare(&self, first: &[u8], second: &[u8]) -> Result<Comparison, Refusal> {
-        three_compare(first, second)
+        hands::compare::<ThreeHand>(first, second)
     }
 }

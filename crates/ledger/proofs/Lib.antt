@@ -1,4 +1,2 @@
-mod Counts
-mod Places
 mod Totals
 pub mod Writing

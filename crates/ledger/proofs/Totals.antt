@@ -1,6 +1,6 @@
--- The total of signed amounts and their limit, one record on and at the end. Assumes nothing.
-use Rattle.std.proofs.Common.{◌≡◌, ℕ, suc, ◌+◌, ◌<◌, ◌≤◌, true, false, ◌&&◌, List, length, get_or, drop, ℤ, pos, negsuc, ◌+ℤ◌, neg_ℤ, ◌≤ℤ◌, sym, ap, ◌∙◌, arith}
-use Rattle.std.proofs.lemmas.List.{at_drop_more, at_drop_all}
+-- The total of signed amounts and their limit, one record on. Assumes nothing.
+use Rattle.std.proofs.Common.{◌≡◌, ℕ, suc, ◌+◌, ◌<◌, ◌≤◌, true, ◌&&◌, List, length, get_or, drop, ℤ, pos, negsuc, ◌+ℤ◌, neg_ℤ, ◌≤ℤ◌, sym, ap, ◌∙◌, arith}
+use Rattle.std.proofs.lemmas.List.{at_drop_more}
 use Rattle.std.proofs.lemmas.Int.{ints}
 use Rattle.std.proofs.lemmas.Bool.{leb-true}
 use Rattle.ledger.specs.Sums.{most_amount, within, all_within, total_of}
@@ -10,22 +10,9 @@ pub within_bounds : (z : ℤ) → within z ≡ true → (neg_ℤ (pos most_amoun
 within_bounds (pos n) h = let le : n ≤ most_amount = leb-true _ _ h in (omega (arith, ints), omega (arith, ints))
 within_bounds (negsuc n) h = let le : suc n ≤ most_amount = leb-true _ _ h in (omega (arith, ints), omega (arith, ints))
 
-module _ {X : Type 0} (amount_of : X → ℤ) (xs : List X) (i : ℕ) where
-  module _ (x : X) (lt : i < length xs) (is : x ≡ get_or xs i x) where
-    pub total_more : total_of amount_of (drop i xs) ≡ amount_of x +ℤ total_of amount_of (drop (i + 1) xs)
-    total_more = at_drop_more (total_of amount_of) xs i x lt ∙ ap (λ y. amount_of y +ℤ total_of amount_of (drop (i + 1) xs)) (sym is)
+module _ {X : Type 0} (amount_of : X → ℤ) (xs : List X) (i : ℕ) (x : X) (lt : i < length xs) (is : x ≡ get_or xs i x) where
+  pub total_more : total_of amount_of (drop i xs) ≡ amount_of x +ℤ total_of amount_of (drop (i + 1) xs)
+  total_more = at_drop_more (total_of amount_of) xs i x lt ∙ ap (λ y. amount_of y +ℤ total_of amount_of (drop (i + 1) xs)) (sym is)
 
-    all_within_more : all_within amount_of (drop i xs) ≡ (within (amount_of x) && all_within amount_of (drop (i + 1) xs))
-    all_within_more = at_drop_more (all_within amount_of) xs i x lt ∙ ap (λ y. within (amount_of y) && all_within amount_of (drop (i + 1) xs)) (sym is)
-
-    pub within_more : within (amount_of x) ≡ true → all_within amount_of (drop i xs) ≡ all_within amount_of (drop (i + 1) xs)
-    within_more h = all_within_more ∙ ap (λ b. b && all_within amount_of (drop (i + 1) xs)) h
-
-    pub past_more : within (amount_of x) ≡ false → all_within amount_of (drop i xs) ≡ false
-    past_more h = all_within_more ∙ ap (λ b. b && all_within amount_of (drop (i + 1) xs)) h
-
-  pub total_all : length xs ≤ i → total_of amount_of (drop i xs) ≡ pos 0
-  total_all le = at_drop_all (total_of amount_of) xs i le
-
-  pub all_within_all : length xs ≤ i → all_within amount_of (drop i xs) ≡ true
-  all_within_all le = at_drop_all (all_within amount_of) xs i le
+  pub within_more : within (amount_of x) ≡ true → all_within amount_of (drop i xs) ≡ all_within amount_of (drop (i + 1) xs)
+  within_more h = at_drop_more (all_within amount_of) xs i x lt ∙ ap (λ y. within (amount_of y) && all_within amount_of (drop (i + 1) xs)) (sym is) ∙ ap (λ b. b && all_within amount_of (drop (i + 1) xs)) h

@@ -16,9 +16,6 @@ impl fmt::Display for Closing {
     ghost output = { λ c. Some (closing_line c) };
 
     fn fmt<W: fmt::Write>(&self, f: &mut fmt::Formatter<W>) -> fmt::Result {
-        let tray = self.tray;
-        let racks = self.racks;
-        let spaces = self.spaces;
-        write!(f, "Z {tray} {racks} {spaces}")
+        write!(f, "Z {} {} {}", self.tray, self.racks, self.spaces)
     }
 }

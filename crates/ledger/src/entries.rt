@@ -1,8 +1,8 @@
 // Entries of the ledger: what one seat staked and got back in one round.
-ghost use Rattle.std.specs.Prelude.{◌≡◌, ℕ, ◌≤◌, Some};
-ghost use Rattle.ledger.specs.Entries.{entered, entry_answer};
+ghost use Rattle.std.specs.Prelude.{◌≡◌, Some};
+ghost use Rattle.ledger.specs.Entries.{entry_answer};
 ghost use Rattle.ledger.specs.Lines.{entry_line};
-ghost use Rattle.ledger.specs.Sums.{most_amount, summed};
+ghost use Rattle.ledger.specs.Sums.{summed};
 
 use crate::seated::NamesSeat;
 use crate::sums;
@@ -28,22 +28,13 @@ impl Entry {
         if staked > MOST_AMOUNT as u64 || returned > MOST_AMOUNT as u64 {
             return Err(Refusal::new(Cause::TotalTooLarge, seat));
         }
-        Ok(Entry::of(round, seat, staked, returned))
-    }
-
-    // The same for a caller that knows both amounts to be within the limit.
-    fn of(round: u32, seat: u8, staked: u64, returned: u64) -> Entry
-        requires staked { staked ≤ most_amount }
-        requires returned { returned ≤ most_amount }
-        ensures { result ≡ entered round seat staked returned }
-    {
-        Entry {
+        Ok(Entry {
             round,
             seat,
             staked,
             returned,
             net: returned as i64 - staked as i64,
-        }
+        })
     }
 }
 
@@ -74,11 +65,10 @@ impl fmt::Display for Entry {
     ghost output = { λ e. Some (entry_line e) };
 
     fn fmt<W: fmt::Write>(&self, f: &mut fmt::Formatter<W>) -> fmt::Result {
-        let round = self.round;
-        let seat = self.seat;
-        let staked = self.staked;
-        let returned = self.returned;
-        let net = self.net;
-        write!(f, "E {round} {seat} {staked} {returned} {net}")
+        write!(
+            f,
+            "E {} {} {} {} {}",
+            self.round, self.seat, self.staked, self.returned, self.net
+        )
     }
 }

@@ -42,10 +42,13 @@ impl fmt::Display for Note {
     ghost output = { λ n. Some (note_line n) };
 
     fn fmt<W: fmt::Write>(&self, f: &mut fmt::Formatter<W>) -> fmt::Result {
-        let place = self.place;
-        let number = self.number();
-        let seat = self.seat();
-        let layer = self.layer().word();
-        write!(f, "X {place} {number} {seat} {layer}")
+        write!(
+            f,
+            "X {} {} {} {}",
+            self.place,
+            self.number(),
+            self.seat(),
+            self.layer()
+        )
     }
 }

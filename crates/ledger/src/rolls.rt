@@ -7,7 +7,8 @@ pub mod keeping;
 // Counting the records of a seat.
 pub mod counting;
 
-// The first `len` of the lent places hold the records, in the order in which they were kept.
+// The first `len` of the lent places hold the records, in the order in which they were kept. A roll has no memory of its own, so the places are its caller's.
+// There is no `impl Model`: behind a view the lender would not learn what its slice holds when the roll ends.
 #[derive(Drop)]
 pub struct Roll<'a, R> {
     slots: &'a mut [R],

@@ -24,13 +24,10 @@ pub fn sum<R: SignedAmount>(records: &[R]) -> Result<i64, Refusal>
     if records.len() > MOST_RECORDS {
         return Err(Refusal::new(Cause::TotalTooLarge, 0));
     }
-    match total(records) {
-        Some(sum) => Ok(sum),
-        None => Err(Refusal::new(Cause::TotalTooLarge, 0)),
-    }
+    total(records).ok_or(Refusal::new(Cause::TotalTooLarge, 0))
 }
 
-// The total of so few records that it cannot overflow, or None at an amount past the limit.
+// The total of so few records that it cannot overflow, or None at an amount past the limit. A loop, since only its invariant bounds the total so far.
 fn total<R: SignedAmount>(records: &[R]) -> Option<i64>
     requires { length records.now ≤ most_records }
     ensures { result ≡ total_within R.amount_of records.now }
@@ -50,5 +47,5 @@ fn total<R: SignedAmount>(records: &[R]) -> Option<i64>
 fn is_within(amount: i64) -> bool
     ensures { result ≡ within amount }
 {
-    -MOST_AMOUNT <= amount && amount <= MOST_AMOUNT
+    (-MOST_AMOUNT..=MOST_AMOUNT).contains(&amount)
 }

@@ -1,16 +1,50 @@
 // What is printed as a line, and many of its kind one after another.
-ghost use Rattle.std.specs.Prelude.{◌≡◌, ℕ, List, ◌++◌, is_ok, if◌then◌else◌, OnOk};
-ghost use Rattle.lines.specs.Lines.{lines_of};
+ghost use Rattle.std.specs.Prelude.{◌≡◌, ℕ, List, ◌++◌, Some, refl, is_ok, if◌then◌else◌, OnOk};
+ghost use Rattle.std.specs.Fmt.{with_newline};
+ghost use Rattle.lines.specs.Lines.{entry_line, note_line, closing_line, lines_of};
 
+use ledger::closings::Closing;
+use ledger::entries::Entry;
+use ledger::notes::Note;
 use std::alloc::AllocError;
+use std::fmt;
 
-pub trait Printed {
+// Room for the longest line, that of an entry; a longer one would only take more.
+const LINE_ROOM: usize = 80;
+
+// A line is what `{}` writes of a record, and a line feed.
+pub trait Printed: fmt::Display {
     // the line that is printed, with its line feed
     ghost line_of: { Self → List ℕ };
 
     // Prints the line to the end of a page; where memory is wanting the page stays as it was.
     fn print(&self, page: &mut Vec<u8>) -> Result<(), AllocError>
-        ensures { page.new.items ≡ (if is_ok result then page.old.items ++ line_of self.now else page.old.items) };
+        ensures { page.new.items ≡ (if is_ok result then page.old.items ++ line_of self.now else page.old.items) }
+    {
+        let mut line = String::with_capacity(*page.allocator(), LINE_ROOM)?;
+        writeln!(line, "{self}")?;
+        page.extend_from_slice(line.as_bytes())
+    }
+
+    ghost displayed: { (x : Self) → with_newline (Self.output x) ≡ Some (line_of x) };
+}
+
+impl Printed for Entry {
+    ghost line_of = { entry_line };
+
+    ghost displayed = { λ _. refl };
+}
+
+impl Printed for Note {
+    ghost line_of = { note_line };
+
+    ghost displayed = { λ _. refl };
+}
+
+impl Printed for Closing {
+    ghost line_of = { closing_line };
+
+    ghost displayed = { λ _. refl };
 }
 
 // Prints a line for each record, in order.

@@ -1,6 +1,7 @@
 -- Rows of cards that have like points at their first places: what of a round these decide.
 use Rattle.std.proofs.Common.{◌≡◌, ℕ, ◌+◌, ◌%◌, ◌<◌, ◌≤◌, Bool, true, false, cond, List, [], ◌∷◌, ◌++◌, get_or, Some, None, sum_by, Option, refl, ap, ◌∙◌, arith, lit<}
 use Rattle.std.proofs.lemmas.List.Sums.{sum_by-append}
+use Rattle.std.proofs.lemmas.Bool.{true≢false, false≢true}
 use Rattle.makccarat.specs.declared.side.Side.{Side}
 use Rattle.makccarat.specs.declared.side.Side.TheVariants.{Player, Banker}
 use Rattle.makccarat.specs.declared.way.Way.{Way}
@@ -70,8 +71,8 @@ module _ (cs ds : List ℕ) where
       cards true x y e = ap (λ n. 0 + n) (like 4 (lit< tt))
       cards false true true e = ap (λ n. 0 + n) (like 5 (lit< tt))
       cards false false false e = refl
-      cards false true false e = let z : ◌≡◌ {A = ℕ} 0 1 = cc in absurd (omega arith)
-      cards false false true e = let z : ◌≡◌ {A = ℕ} 0 1 = cc in absurd (omega arith)
+      cards false true false e = absurd (true≢false e)
+      cards false false true e = absurd (false≢true e)
 
       after : (o : Option Side) → sum_by points (added_after w cs s o) ≡ sum_by points (added_after w ds s o)
       after None = refl

@@ -1,8 +1,7 @@
 -- The front parts of a row of cards: which of them is a lawful deal.
-use Rattle.std.proofs.Common.{◌≡◌, ℕ, ◌<◌, ◌≤◌, true, List, length, take, None, sym, ap, ◌∙◌, subst, ⊎_elim, arith}
+use Rattle.std.proofs.Common.{◌≡◌, ℕ, ◌<◌, ◌≤◌, true, List, length, take, None, Ok, sym, ap, ◌∙◌, subst, ⊎_elim, arith}
 use Rattle.std.proofs.lemmas.List.{get_or-take, length-take-le}
 use Rattle.std.proofs.lemmas.Bool.{cases_lt}
-use Rattle.game.specs.declared.dealing.Dealing.TheVariants.{Lawful}
 use Rattle.makccarat.specs.declared.way.Way.{Way}
 use Rattle.makccarat.specs.Cards.{are_cards, points}
 use Rattle.makccarat.specs.Round.{adder, called, called_after, dealing}
@@ -35,12 +34,12 @@ module _ (w : Way) (row : List ℕ) where
       within : called w row ≤ length row
       within = omega (arith, (four_to_six w row).1)
 
-      lawful : dealing w (take (called w row) row) ≡ Lawful
+      lawful : dealing w (take (called w row) row) ≡ Ok tt
       lawful =
           deal_lawful w (take (called w row) row) (cards_take (called w row) row all)
           (length-take-le (called w row) row within ∙ sym (called_take (called w row) (four_to_six w row).0 (four_adds_none w row (adder row))))
 
-      alone : (m : ℕ) → m ≤ length row → dealing w (take m row) ≡ Lawful → m ≡ called w row
+      alone : (m : ℕ) → m ≤ length row → dealing w (take m row) ≡ Ok tt → m ≡ called w row
       alone m short fair =
           let count : m ≡ called w (take m row) = sym (length-take-le m row short) ∙ (lawful_deal w (take m row) fair).1 in
           let four : 4 ≤ m = omega (arith, (four_to_six w (take m row)).0) in

@@ -3,7 +3,8 @@ use Rattle.std.proofs.Common.{◌≡◌, ℕ, zero, suc, ◌≤◌, true, cond, 
 use Rattle.std.proofs.lemmas.Bool.{and_from, le-leb}
 use Rattle.makccarat.specs.declared.side.Side.TheVariants.{Player, Banker}
 use Rattle.makccarat.specs.declared.way.Way.TheVariants.{First, Second}
-use Rattle.makccarat.specs.Cards.{is_card, are_cards, rank, suit, points}
+use Rattle.makccarat.specs.Cards.{are_cards, points}
+use Rattle.grading.specs.Cards.{is_card, rank_of, suit_of}
 use Rattle.makccarat.specs.Round.{final_total, higher}
 use Rattle.makccarat.specs.Laws.{CheckedDeals, card}
 use Rattle.makccarat.proofs.Alike.{Alike, called_alike, final_total_alike}
@@ -12,16 +13,16 @@ use Rattle.makccarat.specs.Counts.{deal_lawful, deal_wrong_count}
 -- a rank from 2 to 14 and a suit from 0 to 3 make a card, before cards
 also : (r s : ℕ) → 2 ≤ r → r ≤ 14 → s ≤ 3 → (bs : List ℕ) → are_cards bs ≡ true → are_cards (card r s ∷ bs) ≡ true
 also r s low high h bs rest =
-    let e : rank (card r s) ≡ r = omega arith in
+    let e : rank_of (card r s) ≡ r = omega arith in
     and_from (is_card (card r s)) (are_cards bs)
-    (and_from _ _ (and_from _ _ (le-leb 2 (rank (card r s)) (omega arith)) (le-leb (rank (card r s)) 14 (omega arith)))
-    (le-leb (suit (card r s)) 3 (omega arith)))
+    (and_from _ _ (le-leb 2 (rank_of (card r s)) (omega arith))
+    (and_from _ _ (le-leb (rank_of (card r s)) 14 (omega arith)) (le-leb (suit_of (card r s)) 3 (omega arith))))
     rest
 
 -- the suit does not count
 points_of_rank : (r s : ℕ) → s ≤ 3 → points (card r s) ≡ points (card r 0)
 points_of_rank r s h =
-    let e : rank (card r s) ≡ rank (card r 0) = omega arith in ap (λ n. cond (eqb n 14) 1 (cond (leb n 9) n 0)) e
+    let e : rank_of (card r s) ≡ rank_of (card r 0) = omega arith in ap (λ n. cond (eqb n 14) 1 (cond (leb n 9) n 0)) e
 
 -- the six cards in diamonds
 abbrev diamonds : List ℕ

@@ -1,8 +1,9 @@
 -- How many cards a round calls for, and what a lawful deal holds.
-use Rattle.std.specs.Prelude.{◌≡◌, ℕ, ◌≤◌, Bool, true, false, cond, List, length, Some, None, Option, ◌==◌, ◌≢◌, refl}
+use Rattle.std.specs.Prelude.{◌≡◌, ℕ, ◌≤◌, Bool, true, false, cond, List, length, Some, None, Ok, Err, Option, ◌≢◌, refl}
 use Rattle.std.proofs.Common.{arith, lit≤}
-use Rattle.std.proofs.lemmas.Bool.{eqb-true, eq-eqb, ne_eqb}
-use Rattle.game.specs.declared.dealing.Dealing.TheVariants.{Lawful, NoCard, WrongCount}
+use Rattle.std.proofs.lemmas.Bool.{eq-eqb, ne_eqb}
+use Rattle.game.proofs.Judged.{judged_lawful}
+use Rattle.game.specs.declared.dealing.Misdeal.TheVariants.{WrongCount}
 use Rattle.makccarat.specs.declared.side.Side.{Side}
 use Rattle.makccarat.specs.declared.way.Way.{Way}
 use Rattle.makccarat.specs.Cards.{are_cards}
@@ -30,18 +31,13 @@ four_adds_none w cs (Some s) h = absurd (more (answered w cs s) h)
     more false l = omega arith
 
 -- a lawful deal is all cards, and as many as are called for
-pub lawful_deal : (w : Way) (cs : List ℕ) → dealing w cs ≡ Lawful → (are_cards cs ≡ true) × (length cs ≡ called w cs)
-lawful_deal w cs h = let p = both (are_cards cs) (length cs == called w cs) h in (p.0, eqb-true (length cs) (called w cs) p.1)
-  where
-    both : (x y : Bool) → cond x (cond y Lawful WrongCount) NoCard ≡ Lawful → (x ≡ true) × (y ≡ true)
-    both true true l = (refl, refl)
-    both true false l = let z : ◌≡◌ {A = ℕ} 0 1 = cc in absurd (omega arith)
-    both false y l = let z : ◌≡◌ {A = ℕ} 0 1 = cc in absurd (omega arith)
+pub lawful_deal : (w : Way) (cs : List ℕ) → dealing w cs ≡ Ok tt → (are_cards cs ≡ true) × (length cs ≡ called w cs)
+lawful_deal w cs h = judged_lawful (are_cards cs) (length cs) (called w cs) h
 
 -- cards as many as are called for are a lawful deal
-pub deal_lawful : (w : Way) (cs : List ℕ) → are_cards cs ≡ true → length cs ≡ called w cs → dealing w cs ≡ Lawful
+pub deal_lawful : (w : Way) (cs : List ℕ) → are_cards cs ≡ true → length cs ≡ called w cs → dealing w cs ≡ Ok tt
 deal_lawful w cs all n = rw (all, eq-eqb (length cs) (called w cs) n)
 
 -- cards that are not as many as are called for are the wrong count
-pub deal_wrong_count : (w : Way) (cs : List ℕ) → are_cards cs ≡ true → (length cs ≢ called w cs) → dealing w cs ≡ WrongCount
+pub deal_wrong_count : (w : Way) (cs : List ℕ) → are_cards cs ≡ true → (length cs ≢ called w cs) → dealing w cs ≡ Err WrongCount
 deal_wrong_count w cs all n = rw (all, ne_eqb (length cs) (called w cs) n)

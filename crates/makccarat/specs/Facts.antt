@@ -1,9 +1,11 @@
 -- Makccarat keeps what every game promises.
-use Rattle.std.specs.Prelude.{◌≡◌, ℕ, ◌+◌, ◌*◌, ◌≤◌, Bool, true, false, cond, List, length, Some, None, sum, Option, ◌==◌, nat_le, slice_index, refl}
+use Rattle.std.specs.Prelude.{◌≡◌, ℕ, ◌+◌, ◌*◌, ◌≤◌, Bool, true, false, cond, List, length, Some, None, sum, Option, ◌==◌, slice_index, refl}
 use Rattle.std.proofs.Common.{arith}
 use Rattle.std.proofs.lemmas.Nat.{mul-le}
-use Rattle.std.proofs.lemmas.Bool.{and_parts, leb-true, eqb-true}
+use Rattle.std.proofs.lemmas.Bool.{and_parts, eqb-true, false≢true}
+use Rattle.game.specs.Odds.{postable, won}
 use Rattle.game.specs.Rules.{Facts, RaiseSpace, Small}
+use Rattle.game.proofs.Postable.{postable_le}
 use Rattle.game.proofs.Stakes.{sum_by_places, no_stake_at}
 use Rattle.makccarat.specs.declared.posted.Makccarat.{Makccarat}
 use Rattle.makccarat.specs.declared.side.Side.{Side}
@@ -11,9 +13,9 @@ use Rattle.makccarat.specs.declared.side.Side.TheVariants.{Player, Banker}
 use Rattle.makccarat.specs.declared.way.Way.{Way}
 use Rattle.makccarat.specs.declared.way.Way.TheVariants.{First, Second}
 use Rattle.makccarat.specs.Sides.{same}
-use Rattle.makccarat.specs.Ways.{lawful_odds, postable}
+use Rattle.makccarat.specs.Ways.{lawful_odds}
 use Rattle.makccarat.specs.Round.{winner, pair}
-use Rattle.makccarat.specs.Payment.{won, side_return, tie_return, space_returns, space_ceilings, rules_of}
+use Rattle.makccarat.specs.Payment.{side_return, tie_return, space_returns, space_ceilings, rules_of}
 use Rattle.makccarat.specs.Counts.{four_to_six, lawful_deal}
 
 -- a stake that wins or loses returns at most itself and its odds
@@ -49,7 +51,7 @@ odds_le First tie pairs h =
     let p = and_parts (tie == 14) (pairs == 11) h in (omega (arith, eqb-true tie 14 p.0), omega (arith, eqb-true pairs 11 p.1))
 odds_le Second tie pairs h =
     let p = and_parts (postable tie) (postable pairs) h in
-    (leb-true tie 1000 (and_parts (nat_le 1 tie) (nat_le tie 1000) p.0).1, leb-true pairs 1000 (and_parts (nat_le 1 pairs) (nat_le pairs 1000) p.1).1)
+    (postable_le tie p.0, postable_le pairs p.1)
 
 -- no ceiling passes 10,000,000,000
 ceiling_le : (g : Makccarat) (stakes : List ℕ) → Small stakes → sum (space_ceilings g stakes) ≤ 10000000000
@@ -81,4 +83,4 @@ facts_of g = record {
 
 -- no choice is ever told
 pub raise_space_of : (g : Makccarat) → RaiseSpace (rules_of g)
-raise_space_of g stakes others s told t = let z : ◌≡◌ {A = ℕ} 0 1 = cc in absurd (omega arith)
+raise_space_of g stakes others s told t = absurd (false≢true told)

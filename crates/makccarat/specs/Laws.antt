@@ -1,6 +1,6 @@
 -- What holds of every round: one front of a row is the deal, totals alone decide, and a deal worked by hand.
-use Rattle.std.specs.Prelude.{◌≡◌, ℕ, ◌+◌, ◌*◌, ◌≤◌, true, List, [], ◌∷◌, length, take, Some, None, Option, ◌≢◌}
-use Rattle.game.specs.declared.dealing.Dealing.TheVariants.{Lawful, WrongCount}
+use Rattle.std.specs.Prelude.{◌≡◌, ℕ, ◌+◌, ◌*◌, ◌≤◌, true, List, [], ◌∷◌, length, take, Some, None, Ok, Err, Option, ◌≢◌}
+use Rattle.game.specs.declared.dealing.Misdeal.TheVariants.{WrongCount}
 use Rattle.makccarat.specs.declared.side.Side.{Side}
 use Rattle.makccarat.specs.declared.side.Side.TheVariants.{Player, Banker}
 use Rattle.makccarat.specs.declared.way.Way.{Way}
@@ -11,8 +11,8 @@ use Rattle.makccarat.specs.Round.{final_total, winner, dealing}
 -- exactly one front part of the row is a lawful deal, that of n cards
 pub record OneFront (w : Way) (row : List ℕ) (n : ℕ) : Type 0 where
   pub within : n ≤ length row
-  pub lawful : dealing w (take n row) ≡ Lawful
-  pub alone : (m : ℕ) → m ≤ length row → dealing w (take m row) ≡ Lawful → m ≡ n
+  pub lawful : dealing w (take n row) ≡ Ok tt
+  pub alone : (m : ℕ) → m ≤ length row → dealing w (take m row) ≡ Ok tt → m ≡ n
 
 -- of a row of at least six cards one front part is the deal; a row that is shorter, or not all cards, is not asked
 abbrev pub Fronted : Way → List ℕ → Option ℕ → Type 0
@@ -30,11 +30,11 @@ card rank suit = 16 * rank + suit
 
 -- six cards that are a deal in the first way, where the banker wins 7 to 6, and one card too many in the second
 pub record Parted (cs : List ℕ) : Type 0 where
-  pub first : dealing First cs ≡ Lawful
+  pub first : dealing First cs ≡ Ok tt
   pub player : final_total First cs Player ≡ 6
   pub banker : final_total First cs Banker ≡ 7
   pub wins : winner First cs ≡ Some Banker
-  pub second : dealing Second cs ≡ WrongCount
+  pub second : dealing Second cs ≡ Err WrongCount
 
 -- the ranks 4, 2, 3, 3, 2, 9, of whatever suits, part the two ways
 abbrev pub CheckedDeals : Type 0

@@ -1,8 +1,9 @@
 -- What the spaces return and what they may cost the bank.
-use Rattle.std.specs.Prelude.{ℕ, ◌+◌, ◌*◌, Bool, false, cond, ◌||◌, List, [], ◌∷◌, Some, None, sum, Option, ◌==◌, nat_lt, slice_index}
+use Rattle.std.specs.Prelude.{ℕ, ◌*◌, Bool, false, cond, ◌||◌, List, [], ◌∷◌, Some, None, Ok, Err, sum, Option, Result, ◌==◌, nat_lt, slice_index}
+use Rattle.game.specs.Odds.{won}
 use Rattle.game.specs.Rules.{Rules}
-use Rattle.game.specs.declared.taking.Taking.{Taking}
-use Rattle.game.specs.declared.taking.Taking.TheVariants.{Takes, NoBets, NoCompanion}
+use Rattle.game.specs.declared.taking.Barred.{Barred}
+use Rattle.game.specs.declared.taking.Barred.TheVariants.{NoBets, NoCompanion}
 use Rattle.makccarat.specs.declared.posted.Makccarat.{Makccarat}
 use Rattle.makccarat.specs.declared.side.Side.{Side}
 use Rattle.makccarat.specs.declared.side.Side.TheVariants.{Player, Banker}
@@ -24,10 +25,6 @@ player_pair_stake stakes = slice_index stakes 3
 
 abbrev pub banker_pair_stake : List ℕ → ℕ
 banker_pair_stake stakes = slice_index stakes 4
-
--- a stake that wins at odds of n to 1 returns itself and n times itself
-abbrev pub won : ℕ → ℕ → ℕ
-won stake odds = stake + stake * odds
 
 -- the return of a stake on a side: at 1 to 1 if that side wins, the stake at a tie
 abbrev pub side_return : Option Side → Side → ℕ → ℕ
@@ -68,10 +65,10 @@ abbrev pub companion : List ℕ → Bool
 companion stakes = nat_lt 0 (player_stake stakes) || nat_lt 0 (banker_stake stakes) || nat_lt 0 (tie_stake stakes)
 
 -- the spaces: player, banker and tie take a stake always, the pairs beside a companion
-abbrev pub takes : List ℕ → ℕ → Taking
+abbrev pub takes : List ℕ → ℕ → Result (Unit {0}) Barred
 takes stakes space =
-    cond (space == 1 || space == 2 || space == 3) Takes
-    (cond (space == 4 || space == 5) (cond (companion stakes) Takes NoCompanion) NoBets)
+    cond (space == 1 || space == 2 || space == 3) (Ok tt)
+    (cond (space == 4 || space == 5) (cond (companion stakes) (Ok tt) (Err NoCompanion)) (Err NoBets))
 
 -- what Makccarat tells: no choice, and a return and a lawful deal for which it is all one who stakes
 abbrev pub rules_of : Makccarat → Rules

@@ -1,11 +1,12 @@
 -- A round of Makccarat: how many cards it calls for, the final totals and who wins. A card that is not there counts no points.
-use Rattle.std.specs.Prelude.{ℕ, ◌%◌, Bool, false, cond, ◌||◌, List, [], ◌∷◌, ◌++◌, length, Some, None, sum_by, Option, ◌==◌, nat_le, nat_lt, slice_index}
-use Rattle.game.specs.declared.dealing.Dealing.{Dealing}
-use Rattle.game.specs.declared.dealing.Dealing.TheVariants.{Lawful, NoCard, WrongCount}
+use Rattle.std.specs.Prelude.{ℕ, ◌%◌, Bool, false, cond, ◌||◌, List, [], ◌∷◌, ◌++◌, length, Some, None, sum_by, Option, Result, ◌==◌, nat_le, nat_lt, slice_index}
+use Rattle.game.specs.declared.dealing.Misdeal.{Misdeal}
+use Rattle.game.specs.Dealing.{judged}
+use Rattle.grading.specs.Cards.{rank_of}
 use Rattle.makccarat.specs.declared.side.Side.{Side}
 use Rattle.makccarat.specs.declared.side.Side.TheVariants.{Player, Banker}
 use Rattle.makccarat.specs.declared.way.Way.{Way}
-use Rattle.makccarat.specs.Cards.{are_cards, rank, points}
+use Rattle.makccarat.specs.Cards.{are_cards, points}
 use Rattle.makccarat.specs.Sides.{other, same}
 use Rattle.makccarat.specs.Ways.{adds_when_level}
 
@@ -73,9 +74,9 @@ winner w cs = higher (final_total w cs Player) (final_total w cs Banker)
 
 -- whether a side's first two cards are a pair: of one rank
 abbrev pub pair : List ℕ → Side → Bool
-pair cs Player = rank (slice_index cs 0) == rank (slice_index cs 2)
-pair cs Banker = rank (slice_index cs 1) == rank (slice_index cs 3)
+pair cs Player = rank_of (slice_index cs 0) == rank_of (slice_index cs 2)
+pair cs Banker = rank_of (slice_index cs 1) == rank_of (slice_index cs 3)
 
 -- whether the cards are a lawful deal: all of them cards, and as many as are called for
-abbrev pub dealing : Way → List ℕ → Dealing
-dealing w cs = cond (are_cards cs) (cond (length cs == called w cs) Lawful WrongCount) NoCard
+abbrev pub dealing : Way → List ℕ → Result (Unit {0}) Misdeal
+dealing w cs = judged (are_cards cs) (length cs) (called w cs)

@@ -1,5 +1,6 @@
 -- The two ways: how they add a card, and their odds.
-use Rattle.std.specs.Prelude.{ℕ, Bool, true, false, ◌&&◌, List, ◌==◌, nat_le, slice_index}
+use Rattle.std.specs.Prelude.{ℕ, Bool, true, false, ◌&&◌, List, ◌==◌, slice_index}
+use Rattle.game.specs.Odds.{postable}
 use Rattle.makccarat.specs.declared.way.Way.{Way}
 use Rattle.makccarat.specs.declared.way.Way.TheVariants.{First, Second}
 
@@ -7,10 +8,6 @@ use Rattle.makccarat.specs.declared.way.Way.TheVariants.{First, Second}
 abbrev pub adds_when_level : Way → Bool
 adds_when_level First = true
 adds_when_level Second = false
-
--- odds that may be posted: 1 to 1,000
-abbrev pub postable : ℕ → Bool
-postable n = nat_le 1 n && nat_le n 1000
 
 -- whether a way may pay these odds on a tie and on pairs: 14 and 11 in the first way, posted ones in the second
 abbrev pub lawful_odds : Way → ℕ → ℕ → Bool

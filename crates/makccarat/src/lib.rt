@@ -1,7 +1,7 @@
 // Makccarat, games 3 and 4: player and banker, who add cards by their totals, in a first and a second way.
 #![tactic(auto)]
 
-// A card's byte: whether it is one, its rank and its points.
+// Lists of cards, and what a card counts.
 pub mod card;
 
 // The two sides.

@@ -1,27 +1,21 @@
 // Opening: a way with its odds from the conditions of a table.
 ghost use Rattle.std.specs.Prelude.{◌≡◌};
-ghost use Rattle.makccarat.specs.Ways.{conditions, postable};
+ghost use Rattle.makccarat.specs.Ways.{conditions};
 ghost use Rattle.makccarat.specs.Opening.{Opened};
 
 use crate::posted::Makccarat;
 use crate::way::Way;
-use refusals::{Cause, Refusal};
-
-fn is_postable(odds: u16) -> bool
-    ensures { result ≡ postable odds }
-{
-    odds >= 1 && odds <= 1000
-}
+use game::odds::{are_postable, are_unused};
+use game::opening::admit;
+use refusals::Refusal;
 
 // Whether cap and odds are what the way asks.
 fn conditions(way: Way, cap: u64, odds: [u16; 5]) -> bool
     ensures { result ≡ conditions way cap odds }
 {
-    let [first, second, third, fourth, fifth] = odds;
-    let rest_unused = cap == 0 && third == 0 && fourth == 0 && fifth == 0;
     match way {
-        Way::First => rest_unused && first == 0 && second == 0,
-        Way::Second => rest_unused && is_postable(first) && is_postable(second),
+        Way::First => cap == 0 && are_unused(&odds),
+        Way::Second => cap == 0 && are_postable(&odds[..2]) && are_unused(&odds[2..]),
     }
 }
 
@@ -30,9 +24,7 @@ impl Makccarat {
     pub fn open(way: Way, cap: u64, odds: [u16; 5]) -> Result<Makccarat, Refusal>
         ensures { Opened way cap odds result }
     {
-        if !conditions(way, cap, odds) {
-            return Err(Refusal::new(Cause::BadConditions, 0));
-        }
+        admit(conditions(way, cap, odds))?;
         match way {
             Way::First => Ok(Makccarat {
                 way,

@@ -1,26 +1,11 @@
 // What a stake on a space returns, and what a seat gets and may cost over its five spaces.
-ghost use Rattle.std.specs.Prelude.{◌≡◌, ◌+◌, ◌*◌, ◌^◌, ◌<◌, sum};
-ghost use Rattle.makccarat.specs.Payment.{won, side_return, tie_return, pair_return, space_returns, space_ceilings};
+ghost use Rattle.std.specs.Prelude.{◌≡◌, ◌^◌, ◌<◌, sum};
+ghost use Rattle.makccarat.specs.Payment.{side_return, tie_return, pair_return, space_returns, space_ceilings};
 
 use crate::posted::Makccarat;
 use crate::round::{pair, winner};
 use crate::side::Side;
-
-// A stake times its odds.
-pub(crate) fn times(stake: u32, odds: u16) -> u64
-    ensures product { result ≡ stake * odds }
-    ensures bound { result < 2 ^ 48 }
-{
-    stake as u64 * odds as u64
-}
-
-// A stake that wins at odds of n to 1 returns itself and n times itself.
-pub(crate) fn won(stake: u32, odds: u16) -> u64
-    ensures won { result ≡ won stake odds }
-    ensures bound { result < 2 ^ 49 }
-{
-    stake as u64 + times(stake, odds)
-}
+use game::odds::{times, won};
 
 // A side's stake pays 1 to 1 if that side wins, and comes back at a tie.
 pub(crate) fn side_return(winner: Option<Side>, side: Side, stake: u32) -> u64
@@ -29,7 +14,7 @@ pub(crate) fn side_return(winner: Option<Side>, side: Side, stake: u32) -> u64
 {
     match winner {
         None => stake as u64,
-        Some(winner) if winner.is(side) => won(stake, 1),
+        Some(winner) if winner == side => won(stake, 1),
         Some(_) => 0,
     }
 }

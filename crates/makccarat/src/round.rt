@@ -1,21 +1,21 @@
 // A round, from the cards in the order they came: who adds, how many cards are called for, the final totals, who wins.
+// The game has the way and the deal the cards, and both sides are asked about: a struct would be made anew for each question.
 ghost use Rattle.std.specs.Prelude.{◌≡◌, [], ◌∷◌, ◌++◌, slice_index};
 ghost use Rattle.makccarat.specs.Laws.{Decided};
 ghost use Rattle.makccarat.specs.Round.{total, first_two, first_total, adder, answered, called, final_total, higher, winner, pair, dealing};
 
-use crate::card::{all_cards, points, rank};
+use crate::card::{all_cards, points};
 use crate::side::Side;
 use crate::way::Way;
-use game::dealing::Dealing;
+use game::dealing::{Misdeal, judge};
+use grading::cards::rank_of;
+use std::cmp::Ordering;
 
 // The byte at a place, or 0, which counts no points.
 fn card_at(cards: &[u8], place: usize) -> u8
     ensures { result ≡ slice_index cards.now place }
 {
-    match cards.get(place) {
-        Some(card) => *card,
-        None => 0,
-    }
+    cards.get(place).copied().unwrap_or(0)
 }
 
 // A side's first two cards.
@@ -84,7 +84,7 @@ pub fn final_total(way: Way, cards: &[u8], side: Side) -> u8
     ensures { result ≡ final_total way cards.now side }
 {
     match adder(cards) {
-        Some(adder) if adder.is(side) => total_with(cards, side, card_at(cards, 4)),
+        Some(adder) if adder == side => total_with(cards, side, card_at(cards, 4)),
         Some(adder) if answered(way, cards, adder) => total_with(cards, side, card_at(cards, 5)),
         _ => first_total(cards, side),
     }
@@ -94,12 +94,10 @@ pub fn final_total(way: Way, cards: &[u8], side: Side) -> u8
 fn higher(player: u8, banker: u8) -> Option<Side>
     ensures { result ≡ higher player banker }
 {
-    if player > banker {
-        Some(Side::Player)
-    } else if player < banker {
-        Some(Side::Banker)
-    } else {
-        None
+    match player.cmp(&banker) {
+        Ordering::Greater => Some(Side::Player),
+        Ordering::Less => Some(Side::Banker),
+        Ordering::Equal => None,
     }
 }
 
@@ -119,18 +117,12 @@ pub fn pair(cards: &[u8], side: Side) -> bool
     ensures { result ≡ pair cards.now side }
 {
     let [one, two] = first_two(cards, side);
-    rank(one) == rank(two)
+    rank_of(one) == rank_of(two)
 }
 
 // Whether the cards are a lawful deal.
-pub fn dealing(way: Way, cards: &[u8]) -> Dealing
+pub fn dealing(way: Way, cards: &[u8]) -> Result<(), Misdeal>
     ensures { result ≡ dealing way cards.now }
 {
-    if !all_cards(cards) {
-        Dealing::NoCard
-    } else if cards.len() != called(way, cards) {
-        Dealing::WrongCount
-    } else {
-        Dealing::Lawful
-    }
+    judge(all_cards(cards), cards.len(), called(way, cards))
 }

@@ -1,6 +1,6 @@
 // The two sides of a round.
 ghost use Rattle.std.specs.Prelude.{◌≡◌};
-ghost use Rattle.makccarat.specs.Sides.{other, same};
+ghost use Rattle.makccarat.specs.Sides.{other};
 
 #[derive(Clone, Copy, PartialEq, Eq, Debug)]
 pub enum Side {
@@ -17,12 +17,5 @@ impl Side {
             Side::Player => Side::Banker,
             Side::Banker => Side::Player,
         }
-    }
-
-    // Whether this is that side.
-    pub(crate) fn is(self, side: Side) -> bool
-        ensures { result ≡ same self side }
-    {
-        self == side
     }
 }

@@ -5,9 +5,10 @@ ghost use Rattle.makccarat.specs.Facts.{facts_of, raise_space_of};
 use crate::posted::Makccarat;
 use crate::round::dealing;
 use game::choice::Choice;
-use game::dealing::Dealing;
+use game::deal::Deal;
+use game::dealing::Misdeal;
 use game::interface::Game;
-use game::taking::Taking;
+use game::taking::Barred;
 
 impl Game for Makccarat {
     ghost rules = { rules_of };
@@ -16,18 +17,19 @@ impl Game for Makccarat {
 
     ghost raise_space = { raise_space_of };
 
-    fn takes(&self, stakes: &[u32; 5], space: u8) -> Taking {
+    fn takes(&self, stakes: &[u32; 5], space: u8) -> Result<(), Barred> {
         let [player, banker, tie, _, _] = *stakes;
+        // A space is a number, since any byte may be asked about; the table asks about 1 to 5.
         match space {
-            1 | 2 | 3 => Taking::Takes,
-            4 | 5 if player > 0 || banker > 0 || tie > 0 => Taking::Takes,
-            4 | 5 => Taking::NoCompanion,
-            _ => Taking::NoBets,
+            1 | 2 | 3 => Ok(()),
+            4 | 5 if player > 0 || banker > 0 || tie > 0 => Ok(()),
+            4 | 5 => Err(Barred::NoCompanion),
+            _ => Err(Barred::NoBets),
         }
     }
 
-    fn deals(&self, _staking: &[bool; 7], cards: &[u8]) -> Dealing {
-        dealing(self.way, cards)
+    fn deals(&self, deal: &Deal<'_>) -> Result<(), Misdeal> {
+        dealing(self.way, deal.cards)
     }
 
     fn chooses(&self, _stakes: &[u32; 5]) -> bool {
@@ -42,15 +44,8 @@ impl Game for Makccarat {
         0
     }
 
-    fn returns(
-        &self,
-        _seat: usize,
-        stakes: &[u32; 5],
-        _choice: Choice,
-        _staking: &[bool; 7],
-        cards: &[u8],
-    ) -> u64 {
-        self.seat_return(stakes, cards)
+    fn returns(&self, _seat: usize, stakes: &[u32; 5], _choice: Choice, deal: &Deal<'_>) -> u64 {
+        self.seat_return(stakes, deal.cards)
     }
 
     fn ceiling(&self, stakes: &[u32; 5]) -> u64 {

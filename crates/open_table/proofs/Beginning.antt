@@ -1,5 +1,5 @@
 -- A table that the first command opened, once the sheet was run on it.
-use Rattle.std.proofs.Common.{ℕ, ◌+◌, ◌<◌, List, [], length, Ok, sym, subst, arith}
+use Rattle.std.proofs.Common.{ℕ, ◌+◌, List, [], Ok, sym, subst}
 use Rattle.commands.specs.Calls.{Open}
 use Rattle.game.specs.Rules.{Rules}
 use Rattle.games.specs.Opening.{Opens}
@@ -10,8 +10,6 @@ use Rattle.ledger.specs.declared.rolls.Roll.{Roll}
 use Rattle.ledger.specs.Rolls.{free}
 use Rattle.books.specs.declared.table_books.Books.{Books}
 use Rattle.sheet.specs.Format.{width_of}
-use Rattle.sheet.specs.Reading.{longest}
-use Rattle.sheet.proofs.Items.{read_short}
 use Rattle.table.specs.Promise.{opened, Reached}
 use Rattle.run.specs.declared.ended.Ended.{Ended}
 use Rattle.run.specs.Runs.{run_of, Ran}
@@ -21,10 +19,6 @@ use Rattle.open_table.specs.Firsts.{OpenedAt}
 use Rattle.open_table.specs.Tables.{books_at, rules_at, SheetRun}
 
 module _ (sheet : List ℕ) (p : ℕ) (t : OpenTable) (q : ℕ) (o : OpenedAt sheet p t q) where
-  -- a sheet that is too long opens no table
-  pub not_too_long : longest < length sheet → ⊥
-  not_too_long long = omega (arith, long, read_short sheet p (Open o.conditions o.tray) o.reads)
-
   pub begun_runs : (l : Roll Entry) (n : Roll Note) (ended : Ended) (t' : OpenTable) (p' : ℕ) (l' : Roll Entry) (n' : Roll Note) → SheetRun t sheet q l n (Ok ended) t' p' l' n' → RunningFrom sheet p l n t' ended p' l' n'
   begun_runs l n ended t' p' l' n' s =
       let c = o.conditions in

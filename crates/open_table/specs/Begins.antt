@@ -1,5 +1,5 @@
 -- A sheet from its first byte through its first run: the whole promise, from opening through the list of the sheet's commands.
-use Rattle.std.specs.Prelude.{◌≡◌, ℕ, ◌+◌, List, [], Some, None, Ok}
+use Rattle.std.specs.Prelude.{◌≡◌, ℕ, ◌+◌, List, [], Some, None, Ok, Err, Option, Result}
 use Rattle.refusals.specs.Refusals.{first_cause}
 use Rattle.commands.specs.declared.Conditions.{Conditions}
 use Rattle.commands.specs.Calls.{Open}
@@ -15,7 +15,6 @@ use Rattle.run.specs.declared.ended.Ended.{Ended}
 use Rattle.run.specs.Runs.{run_of, Ran}
 use Rattle.open_table.specs.declared.open_table.OpenTable.{OpenTable}
 use Rattle.open_table.specs.declared.begun.Begun.{Begun}
-use Rattle.open_table.specs.declared.begun.Begun.TheVariants.{Running, Refused, Nothing}
 use Rattle.open_table.specs.Firsts.{first_refusal}
 use Rattle.open_table.specs.Tables.{opening_causes, rules_at, books_at}
 
@@ -37,7 +36,8 @@ pub record Unmoved (p : ℕ) (l : Roll Entry) (n : Roll Note) (p' : ℕ) (l' : R
   pub ledger : Written l l' []
   pub notes : Written n n' []
 
-abbrev pub SheetBegun : List ℕ → ℕ → Roll Entry → Roll Note → Begun → ℕ → Roll Entry → Roll Note → Type 0
-SheetBegun sheet p l n (Running t ended) p' l' n' = RunningFrom sheet p l n t ended p' l' n'
-SheetBegun sheet p l n (Refused note) p' l' n' = (note.place ≡ p) × (Some note.refusal ≡ first_refusal (read_at sheet p)) × Unmoved p l n p' l' n'
-SheetBegun sheet p l n Nothing p' l' n' = (read_at sheet p ≡ Ok None) × Unmoved p l n p' l' n'
+-- a sheet that was begun, no command, or the note of why no table was opened
+abbrev pub SheetBegun : List ℕ → ℕ → Roll Entry → Roll Note → Result (Option Begun) Note → ℕ → Roll Entry → Roll Note → Type 0
+SheetBegun sheet p l n (Ok (Some b)) p' l' n' = RunningFrom sheet p l n b.table b.ended p' l' n'
+SheetBegun sheet p l n (Ok None) p' l' n' = (read_at sheet p ≡ Ok None) × Unmoved p l n p' l' n'
+SheetBegun sheet p l n (Err note) p' l' n' = (note.place ≡ p) × (Some note.refusal ≡ first_refusal (read_at sheet p)) × Unmoved p l n p' l' n'

@@ -8,9 +8,8 @@ use Rattle.commands.specs.Calls.{Call, Open, Buy, Cash, Fill, Draw, Bet, Deal, R
 use Rattle.sheet.specs.Format.{width_of}
 use Rattle.sheet.specs.Reading.{read_at}
 use Rattle.table.specs.Opening.{refused_by}
+use Rattle.ledger.specs.declared.notes.Note.{Note}
 use Rattle.open_table.specs.declared.open_table.OpenTable.{OpenTable}
-use Rattle.open_table.specs.declared.first.First.{First}
-use Rattle.open_table.specs.declared.first.First.TheVariants.{Opened as opened_first, Refused, Nothing}
 use Rattle.open_table.specs.Tables.{opening_causes, Opened}
 
 -- why a call opens no table, if it does not: only an Open opens one, and it may be refused
@@ -41,7 +40,8 @@ pub record OpenedAt (sheet : List ℕ) (p : ℕ) (t : OpenTable) (p' : ℕ) : Ty
   pub opens : Opened conditions tray (Ok t)
   pub place : p' ≡ p + width_of (Open conditions tray)
 
-abbrev pub FirstCommand : List ℕ → ℕ → First → ℕ → Type 0
-FirstCommand sheet p (opened_first t) p' = OpenedAt sheet p t p'
-FirstCommand sheet p (Refused note) p' = (note.place ≡ p) × (Some note.refusal ≡ first_refusal (read_at sheet p)) × (p' ≡ p)
-FirstCommand sheet p Nothing p' = (read_at sheet p ≡ Ok None) × (p' ≡ p)
+-- a table that was opened, no command, or the note of why no table was opened; the place moves only behind an Open that is accepted
+abbrev pub FirstCommand : List ℕ → ℕ → Result (Option OpenTable) Note → ℕ → Type 0
+FirstCommand sheet p (Ok (Some t)) p' = OpenedAt sheet p t p'
+FirstCommand sheet p (Ok None) p' = (read_at sheet p ≡ Ok None) × (p' ≡ p)
+FirstCommand sheet p (Err note) p' = (note.place ≡ p) × (Some note.refusal ≡ first_refusal (read_at sheet p)) × (p' ≡ p)

@@ -2,40 +2,29 @@
 ghost use Rattle.std.specs.Prelude.{◌≡◌};
 ghost use Rattle.open_table.specs.Begins.{SheetBegun};
 
-use crate::first::{First, first_command};
+use crate::first::first_command;
 use crate::open_table::OpenTable;
-use ledger::entries::Entry;
 use ledger::notes::Note;
-use ledger::rolls::Roll;
 use run::ended::Ended;
-use sheet::place::Place;
+use run::rolls::Rolls;
+use sheet::reader::Reader;
 
-// What the beginning of a sheet comes to: a table and how its first run ended, the note that ends the program, or nothing.
+// A sheet that was begun: the table that it opened, and how its first run ended.
 #[derive(Drop)]
-pub enum Begun {
-    Running(OpenTable, Ended),
-    Refused(Note),
-    Nothing,
+pub struct Begun {
+    pub table: OpenTable,
+    pub ended: Ended,
 }
 
-// Opens the table that the sheet begins with and runs the sheet on it.
-pub fn begin(
-    sheet: &[u8],
-    place: &mut Place,
-    ledger: &mut Roll<'_, Entry>,
-    notes: &mut Roll<'_, Note>,
-) -> Begun
-    ensures { SheetBegun sheet.now place.old.at ledger.old notes.old result place.new.at ledger.new notes.new }
+// Opens the table that the sheet begins with and runs the sheet on it; none where there is no command, and else the note of why no table was opened.
+pub fn begin(reader: &mut Reader<'_>, rolls: &mut Rolls<'_>) -> Result<Option<Begun>, Note>
+    ensures begun { SheetBegun reader.old.sheet.now reader.old.place.at rolls.old.ledger rolls.old.notes result reader.new.place.at rolls.new.ledger rolls.new.notes }
+    ensures sheet { reader.new.sheet ≡ reader.old.sheet }
 {
-    match first_command(sheet, place) {
-        First::Nothing => Begun::Nothing,
-        First::Refused(note) => Begun::Refused(note),
-        First::Opened(mut table) => {
-            let at = place.at;
-            match table.run(sheet, place, ledger, notes) {
-                Ok(ended) => Begun::Running(table, ended),
-                Err(refusal) => Begun::Refused(Note { place: at, refusal }),
-            }
-        }
-    }
+    let Some(mut table) = first_command(reader)? else {
+        return Ok(None);
+    };
+    // a sheet whose first command was read is not too long
+    let ended = table.run(reader, rolls).unwrap();
+    Ok(Some(Begun { table, ended }))
 }

@@ -6,36 +6,23 @@ use crate::open_table::OpenTable;
 use commands::Command;
 use ledger::notes::Note;
 use refusals::{Cause, Refusal};
-use sheet::place::Place;
-use sheet::reading::read;
+use sheet::reader::Reader;
 
-// What the first command comes to: an open table, the note that ends the program, or nothing where there is no command.
-#[derive(Drop)]
-pub enum First {
-    Opened(OpenTable),
-    Refused(Note),
-    Nothing,
-}
-
-// Reads the first command and opens its table; the place moves behind it only then.
-pub fn first_command(sheet: &[u8], place: &mut Place) -> First
-    ensures { FirstCommand sheet.now place.old.at result place.new.at }
+// Reads the first command and opens its table; none where there is no command, and else the note of why none was opened. The place moves only behind an Open that is accepted.
+pub fn first_command(reader: &mut Reader<'_>) -> Result<Option<OpenTable>, Note>
+    ensures first { FirstCommand reader.old.sheet.now reader.old.place.at result reader.new.place.at }
+    ensures sheet { reader.new.sheet ≡ reader.old.sheet }
 {
-    let at = place.at;
-    let mut behind = *place;
-    match read(sheet, &mut behind) {
-        Ok(None) => First::Nothing,
-        Ok(Some(Command::Open { conditions, tray })) => match OpenTable::open(conditions, tray) {
-            Ok(table) => {
-                *place = behind;
-                First::Opened(table)
-            }
-            Err(refusal) => First::Refused(Note { place: at, refusal }),
-        },
-        Ok(Some(other)) => First::Refused(Note {
-            place: at,
-            refusal: Refusal::new(Cause::WrongStage, other.seat()),
-        }),
-        Err(refusal) => First::Refused(Note { place: at, refusal }),
-    }
+    let at = reader.place.at;
+    let noted = |refusal| Note { place: at, refusal };
+    let mut ahead = *reader;
+    let Some(command) = ahead.read().map_err(noted)? else {
+        return Ok(None);
+    };
+    let Command::Open { conditions, tray } = command else {
+        return Err(noted(Refusal::new(Cause::WrongStage, command.seat())));
+    };
+    let table = OpenTable::open(conditions, tray).map_err(noted)?;
+    reader.place = ahead.place;
+    Ok(Some(table))
 }

@@ -1,9 +1,16 @@
 -- Dealing hands of n cards: n to each staking seat in seat order, and then n to the bank.
-use Rattle.std.specs.Prelude.{ℕ, ◌+◌, ◌*◌, Bool, cond, List, length, take, drop, count_by, ◌==◌}
+use Rattle.std.specs.Prelude.{ℕ, ◌+◌, ◌*◌, Bool, List, length, take, drop, count_by, Result}
 use Rattle.grading.specs.Cards.{different_cards}
 use Rattle.game.specs.Rules.{Deal}
-use Rattle.game.specs.declared.dealing.Dealing.{Dealing}
-use Rattle.game.specs.declared.dealing.Dealing.TheVariants.{Lawful, NoCard, WrongCount}
+use Rattle.game.specs.declared.dealing.Misdeal.{Misdeal}
+use Rattle.game.specs.Dealing.{judged}
+use Rattle.poker.specs.declared.dealing.HandSize.{HandSize}
+use Rattle.poker.specs.declared.dealing.HandSize.TheVariants.{Three, Five}
+
+-- how many cards a hand of this size has
+abbrev pub cards_of : HandSize → ℕ
+cards_of Three = 3
+cards_of Five = 5
 
 -- how many of the seats stake
 abbrev pub stakers : List Bool → ℕ
@@ -26,6 +33,5 @@ abbrev pub bank_hand : ℕ → Deal → List ℕ
 bank_hand n d = hand_at n (stakers d.staking) d.cards
 
 -- whether the cards are a lawful deal: different cards, all of them, and a hand for each staking seat and the bank
-abbrev pub dealing : ℕ → Deal → Dealing
-dealing n d =
-    cond (different_cards d.cards) (cond (length d.cards == n * (stakers d.staking + 1)) Lawful WrongCount) NoCard
+abbrev pub dealing : ℕ → Deal → Result (Unit {0}) Misdeal
+dealing n d = judged (different_cards d.cards) (length d.cards) (n * (stakers d.staking + 1))

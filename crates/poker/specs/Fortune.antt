@@ -5,24 +5,19 @@ use Rattle.grading.specs.Grading.{three_class, three_compared}
 use Rattle.grading.specs.ThreeClasses.{three_below}
 use Rattle.grading.specs.declared.three_classes.ThreeClass.{ThreeClass}
 use Rattle.grading.specs.declared.three_classes.ThreeClass.TheVariants.{StraightFlush, Three, Straight, Flush, Pair, OddCards}
+use Rattle.game.specs.Odds.{won}
 use Rattle.game.specs.Rules.{Rules}
 use Rattle.game.specs.declared.choice.Choice.{Choice}
-use Rattle.game.specs.declared.taking.Taking.{Taking}
-use Rattle.game.specs.declared.taking.Taking.TheVariants.{Takes, NoBets}
+use Rattle.game.specs.declared.taking.Barred.{Barred}
+use Rattle.game.specs.declared.taking.Barred.TheVariants.{NoBets}
 use Rattle.poker.specs.declared.fortune.posted.Fortune.{Fortune}
 use Rattle.poker.specs.declared.outcome.Outcome.{Outcome}
 use Rattle.poker.specs.Dealing.{seat_hand, bank_hand, dealing}
 use Rattle.poker.specs.Posting.{largest}
+use Rattle.poker.specs.Stakes.{ante_stake, pair_plus_stake}
 use Rattle.poker.specs.Outcome.{outcome, ante_return, raise_return}
-use Rattle.poker.specs.Payment.{won, if_raised, unless_left}
+use Rattle.poker.specs.Payment.{if_raised, unless_left}
 use Rattle.poker.specs.Ranks.{one_between}
-
--- the stakes on the ante and on Pair Plus
-abbrev pub ante_stake : List ℕ → ℕ
-ante_stake stakes = slice_index stakes 0
-
-abbrev pub pair_plus_stake : List ℕ → ℕ
-pair_plus_stake stakes = slice_index stakes 2
 
 -- whether a class is a pair or better
 abbrev pub pair_or_better : ThreeClass → Bool
@@ -94,8 +89,8 @@ abbrev pub fortune_ceiling : List ℕ → List ℕ → ℕ
 fortune_ceiling odds stakes = 7 * ante_stake stakes + pair_plus_stake stakes * largest odds
 
 -- the spaces: the ante and Pair Plus take a stake, alone or together
-abbrev pub fortune_takes : ℕ → Taking
-fortune_takes space = cond (space == 1 || space == 3) Takes NoBets
+abbrev pub fortune_takes : ℕ → Result (Unit {0}) Barred
+fortune_takes space = cond (space == 1 || space == 3) (Ok tt) (Err NoBets)
 
 -- what Fortune tells at its posted odds: a seat with an ante chooses, may leave unless it has Pair Plus, and raises as much as its ante
 abbrev pub fortune_rules : List ℕ → Rules

@@ -1,20 +1,23 @@
 -- Fortune keeps what every game promises.
-use Rattle.std.specs.Prelude.{◌≡◌, ℕ, ◌+◌, ◌*◌, ◌≤◌, Bool, true, ◌&&◌, List, length, Ok, Err, sum, Result, nat_le, slice_index, refl}
+use Rattle.std.specs.Prelude.{◌≡◌, ℕ, ◌+◌, ◌*◌, ◌≤◌, Bool, true, ◌&&◌, List, length, Ok, Err, sum, Result, slice_index, refl}
 use Rattle.std.proofs.Common.{arith}
 use Rattle.std.proofs.lemmas.Nat.{mul-le}
-use Rattle.std.proofs.lemmas.Bool.{and_parts, leb-true}
+use Rattle.std.proofs.lemmas.Bool.{and_parts}
 use Rattle.refusals.specs.declared.Refusal.{Refusal}
 use Rattle.grading.specs.Grading.{three_class}
 use Rattle.grading.specs.declared.three_classes.ThreeClass.{ThreeClass}
 use Rattle.grading.specs.declared.three_classes.ThreeClass.TheVariants.{StraightFlush, Three, Straight, Flush, Pair, OddCards}
+use Rattle.game.specs.Odds.{postable}
 use Rattle.game.specs.Rules.{Facts, RaiseSpace, added}
 use Rattle.game.specs.declared.choice.Choice.{Choice}
 use Rattle.game.specs.declared.choice.Choice.TheVariants.{Open, Raised, Left}
+use Rattle.game.proofs.Postable.{postable_le}
 use Rattle.game.proofs.Stakes.{sum_by_places, no_stake_at}
 use Rattle.poker.specs.declared.fortune.posted.Fortune.{Fortune}
-use Rattle.poker.specs.Posting.{postable, five_postable, largest}
+use Rattle.poker.specs.Posting.{five_postable, largest}
+use Rattle.poker.specs.Stakes.{ante_stake, pair_plus_stake}
 use Rattle.poker.specs.Dealing.{seat_hand, bank_hand}
-use Rattle.poker.specs.Fortune.{ante_stake, pair_plus_stake, fortune_outcome, bonus, posted_odds, pair_plus_return, fortune_spaces, fortune_ceiling, fortune_rules, rules_of}
+use Rattle.poker.specs.Fortune.{fortune_outcome, bonus, posted_odds, pair_plus_return, fortune_spaces, fortune_ceiling, fortune_rules, rules_of}
 use Rattle.poker.specs.Bounds.{ante_return_le, raise_return_le, forty_cards}
 
 -- a bonus is at most 5 times the ante
@@ -73,10 +76,6 @@ module _ (odds : List ℕ) where
   no_raise stakes Open none = refl
   no_raise stakes Raised none = no_stake_at stakes none 0
   no_raise stakes Left none = refl
-
-  -- odds that may be posted are at most 1,000
-  postable_le : (n : ℕ) → postable n ≡ true → n ≤ 1000
-  postable_le n h = leb-true n 1000 (and_parts (nat_le 1 n) (nat_le n 1000) h).1
 
   largest_le : five_postable odds ≡ true → largest odds ≤ 1000
   largest_le h =

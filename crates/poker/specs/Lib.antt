@@ -3,6 +3,7 @@ pub mod Ranks
 pub mod Outcome
 pub mod Payment
 pub mod Posting
+pub mod Stakes
 pub mod Fortune
 pub mod FortuneOpening
 pub mod Stud

@@ -1,11 +1,7 @@
--- What a stake brings by the seat's choice, and at odds.
-use Rattle.std.specs.Prelude.{ℕ, ◌+◌, ◌*◌}
+-- What a stake brings by the seat's choice.
+use Rattle.std.specs.Prelude.{ℕ}
 use Rattle.game.specs.declared.choice.Choice.{Choice}
 use Rattle.game.specs.declared.choice.Choice.TheVariants.{Open, Raised, Left}
-
--- a stake that wins at odds of n to 1 returns itself and n times itself
-abbrev pub won : ℕ → ℕ → ℕ
-won stake odds = stake + stake * odds
 
 -- what is brought only to a seat that raised
 abbrev pub if_raised : Choice → ℕ → ℕ

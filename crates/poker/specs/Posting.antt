@@ -1,9 +1,6 @@
 -- Odds and caps that may be posted.
 use Rattle.std.specs.Prelude.{ℕ, max, Bool, ◌&&◌, List, ◌==◌, nat_le, slice_index}
-
--- odds that may be posted: 1 to 1,000
-abbrev pub postable : ℕ → Bool
-postable n = nat_le 1 n && nat_le n 1000
+use Rattle.game.specs.Odds.{postable}
 
 -- five odds that may be posted
 abbrev pub five_postable : List ℕ → Bool

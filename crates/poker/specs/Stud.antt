@@ -1,5 +1,5 @@
 -- Stud: when the bank opens, what the spaces bring, and the ceiling.
-use Rattle.std.specs.Prelude.{ℕ, ◌+◌, ◌*◌, min, max, Bool, true, false, cond, ◌&&◌, ◌||◌, List, [], ◌∷◌, Ok, Err, sum, Result, ◌==◌, nat_le, nat_lt, slice_index}
+use Rattle.std.specs.Prelude.{ℕ, ◌+◌, ◌*◌, min, max, Bool, true, false, cond, ◌&&◌, ◌||◌, List, [], ◌∷◌, Ok, Err, sum, Result, ◌==◌, nat_le, nat_lt}
 use Rattle.refusals.specs.declared.Refusal.{Refusal}
 use Rattle.grading.specs.Grading.{five_class, five_compared}
 use Rattle.grading.specs.FiveClasses.{five_below}
@@ -7,18 +7,15 @@ use Rattle.grading.specs.declared.five_classes.FiveClass.{FiveClass}
 use Rattle.grading.specs.declared.five_classes.FiveClass.TheVariants.{RoyalFlush, StraightFlush, Four, FullHouse, Flush, Straight, Three, TwoPairs, Pair, OddCards}
 use Rattle.game.specs.Rules.{Rules}
 use Rattle.game.specs.declared.choice.Choice.{Choice}
-use Rattle.game.specs.declared.taking.Taking.{Taking}
-use Rattle.game.specs.declared.taking.Taking.TheVariants.{Takes, NoBets}
+use Rattle.game.specs.declared.taking.Barred.{Barred}
+use Rattle.game.specs.declared.taking.Barred.TheVariants.{NoBets}
 use Rattle.poker.specs.declared.stud.posted.Stud.{Stud}
 use Rattle.poker.specs.declared.outcome.Outcome.{Outcome}
 use Rattle.poker.specs.Dealing.{seat_hand, bank_hand, dealing}
 use Rattle.poker.specs.Outcome.{outcome, ante_return, raise_return}
 use Rattle.poker.specs.Payment.{if_raised}
+use Rattle.poker.specs.Stakes.{ante_stake}
 use Rattle.poker.specs.Ranks.{one_between}
-
--- the stake on the ante
-abbrev pub ante_stake : List ℕ → ℕ
-ante_stake stakes = slice_index stakes 0
 
 -- the raise is twice the ante
 abbrev pub raise_of : ℕ → ℕ
@@ -81,8 +78,8 @@ abbrev pub stud_ceiling : ℕ → List ℕ → ℕ
 stud_ceiling cap stakes = ante_stake stakes + max (14 * ante_stake stakes) (min (100 * ante_stake stakes) cap)
 
 -- the spaces: the ante alone takes a stake
-abbrev pub stud_takes : ℕ → Taking
-stud_takes space = cond (space == 1) Takes NoBets
+abbrev pub stud_takes : ℕ → Result (Unit {0}) Barred
+stud_takes space = cond (space == 1) (Ok tt) (Err NoBets)
 
 -- what Stud tells at its posted cap: a seat with an ante chooses, and may leave
 abbrev pub stud_rules : ℕ → Rules

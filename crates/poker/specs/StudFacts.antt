@@ -11,7 +11,8 @@ use Rattle.game.specs.declared.choice.Choice.TheVariants.{Open, Raised, Left}
 use Rattle.game.proofs.Stakes.{sum_by_places, no_stake_at}
 use Rattle.poker.specs.declared.stud.posted.Stud.{Stud}
 use Rattle.poker.specs.Dealing.{seat_hand, bank_hand}
-use Rattle.poker.specs.Stud.{ante_stake, raise_of, stud_outcome, raise_pays, stud_spaces, stud_ceiling, stud_rules, rules_of}
+use Rattle.poker.specs.Stud.{raise_of, stud_outcome, raise_pays, stud_spaces, stud_ceiling, stud_rules, rules_of}
+use Rattle.poker.specs.Stakes.{ante_stake}
 use Rattle.poker.specs.Bounds.{ante_return_le, raise_return_le, forty_cards}
 
 module _ (cap : ℕ) where

@@ -1,23 +1,25 @@
 // Dealing hands of one size: to each staking seat in seat order, and then to the bank.
 ghost use Rattle.std.specs.Prelude.{◌≡◌, ◌≤◌, length};
-ghost use Rattle.game.specs.Rules.{deal};
-ghost use Rattle.poker.specs.Dealing.{stakers, stakers_before, hand_at, seat_hand, bank_hand, dealing};
+ghost use Rattle.game.specs.Rules.{deal_of};
+ghost use Rattle.poker.specs.Dealing.{cards_of, stakers, stakers_before, hand_at, seat_hand, bank_hand, dealing};
 
-use game::dealing::Dealing;
+use game::deal::Deal;
+use game::dealing::{Misdeal, judge};
 use grading::cards::are_different_cards;
+
+// How many cards each hand of a game has.
+#[derive(Clone, Copy)]
+pub(crate) enum HandSize {
+    Three,
+    Five,
+}
 
 // How many of the seats stake.
 fn stakers(seats: &[bool]) -> usize
     ensures count { result ≡ stakers seats.now }
     ensures bound { result ≤ length seats.now }
 {
-    let mut count = 0;
-    for stakes in seats {
-        if *stakes {
-            count += 1;
-        }
-    }
-    count
+    seats.iter().filter(|stakes| **stakes).count()
 }
 
 // How many staking seats stand before a seat, which is counted from 0.
@@ -25,53 +27,53 @@ fn stakers_before(seat: usize, staking: &[bool; 7]) -> usize
     ensures count { result ≡ stakers_before seat staking.now }
     ensures bound { result ≤ 7 }
 {
-    let end = seat.min(7);
-    stakers(&staking[0..end])
+    stakers(staking.get(..seat).unwrap_or(staking))
 }
 
-// The hand at a place among the hands; cut short where the cards run out.
-fn hand_at<'a>(size: usize, place: usize, cards: &'a [u8]) -> &'a [u8]
-    requires { (size ≤ 5) × (place ≤ 7) }
-    ensures { result.now ≡ hand_at size place cards.now }
-{
-    let start = (size * place).min(cards.len());
-    let rest = &cards[start..];
-    let end = size.min(rest.len());
-    &rest[0..end]
-}
+impl HandSize {
+    // The number of cards.
+    fn cards(self) -> usize
+        ensures told { result ≡ cards_of self }
+        ensures bound { result ≤ 5 }
+    {
+        match self {
+            HandSize::Three => 3,
+            HandSize::Five => 5,
+        }
+    }
 
-// The hand of a seat.
-pub(crate) fn seat_hand<'a>(
-    size: usize,
-    seat: usize,
-    staking: &[bool; 7],
-    cards: &'a [u8],
-) -> &'a [u8]
-    requires { size ≤ 5 }
-    ensures { result.now ≡ seat_hand size seat (deal staking.now cards.now) }
-{
-    hand_at(size, stakers_before(seat, staking), cards)
-}
+    // The hand at a place among the hands; cut short where the cards run out.
+    fn hand_at<'a>(self, place: usize, cards: &'a [u8]) -> &'a [u8]
+        requires { place ≤ 7 }
+        ensures { result.now ≡ hand_at (cards_of self) place cards.now }
+    {
+        let rest = cards.get(self.cards() * place..).unwrap_or(&[]);
+        rest.get(..self.cards()).unwrap_or(rest)
+    }
 
-// The hand of the bank.
-pub(crate) fn bank_hand<'a>(size: usize, staking: &[bool; 7], cards: &'a [u8]) -> &'a [u8]
-    requires { size ≤ 5 }
-    ensures { result.now ≡ bank_hand size (deal staking.now cards.now) }
-{
-    hand_at(size, stakers(staking), cards)
-}
+    // The hand of a seat.
+    pub(crate) fn seat_hand<'a>(self, seat: usize, deal: &Deal<'a>) -> &'a [u8]
+        ensures { result.now ≡ seat_hand (cards_of self) seat (deal_of deal.now) }
+    {
+        self.hand_at(stakers_before(seat, &deal.staking), deal.cards)
+    }
 
-// Whether the cards are a lawful deal.
-pub(crate) fn dealing(size: usize, staking: &[bool; 7], cards: &[u8]) -> Dealing
-    requires { size ≤ 5 }
-    ensures { result ≡ dealing size (deal staking.now cards.now) }
-{
-    let hands = stakers(staking) + 1;
-    if !are_different_cards(cards) {
-        Dealing::NoCard
-    } else if cards.len() != size * hands {
-        Dealing::WrongCount
-    } else {
-        Dealing::Lawful
+    // The hand of the bank.
+    pub(crate) fn bank_hand<'a>(self, deal: &Deal<'a>) -> &'a [u8]
+        ensures { result.now ≡ bank_hand (cards_of self) (deal_of deal.now) }
+    {
+        self.hand_at(stakers(&deal.staking), deal.cards)
+    }
+
+    // Whether the cards are a lawful deal.
+    pub(crate) fn dealing(self, deal: &Deal<'_>) -> Result<(), Misdeal>
+        ensures { result ≡ dealing (cards_of self) (deal_of deal.now) }
+    {
+        let hands = stakers(&deal.staking) + 1;
+        judge(
+            are_different_cards(deal.cards),
+            deal.cards.len(),
+            self.cards() * hands,
+        )
     }
 }

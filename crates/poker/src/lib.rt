@@ -10,7 +10,10 @@ mod ranks;
 // How a round ends for a raised seat, and what ante and raise then bring.
 pub mod outcome;
 
-// What a stake brings by the seat's choice, and at odds.
+// A seat's stakes by their names.
+mod stakes;
+
+// What a stake brings by the seat's choice.
 mod payment;
 
 // Fortune, game 1.

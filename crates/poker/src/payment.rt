@@ -1,17 +1,8 @@
-// What a stake brings by the seat's choice, and at odds.
-ghost use Rattle.std.specs.Prelude.{◌≡◌, ◌*◌, ◌^◌, ◌<◌, ◌≤◌};
+// What a stake brings by the seat's choice.
+ghost use Rattle.std.specs.Prelude.{◌≡◌, ◌≤◌};
 ghost use Rattle.poker.specs.Payment.{if_raised, unless_left};
 
 use game::choice::Choice;
-
-// A stake times its odds.
-pub(crate) fn times(stake: u64, odds: u16) -> u64
-    requires { stake < 2 ^ 33 }
-    ensures product { result ≡ stake * odds }
-    ensures bound { result < 2 ^ 49 }
-{
-    stake * odds as u64
-}
 
 // What is brought only to a seat that raised.
 pub(crate) fn if_raised(choice: Choice, amount: u64) -> u64

@@ -2,9 +2,10 @@
 use crate::fortune::posted::Fortune;
 use crate::stud::posted::Stud;
 use game::choice::Choice;
-use game::dealing::Dealing;
+use game::deal::Deal;
+use game::dealing::Misdeal;
 use game::interface::Game;
-use game::taking::Taking;
+use game::taking::Barred;
 use grading::ByRule;
 use std::test::Fail;
 
@@ -17,14 +18,18 @@ const SEATS_TWO_AND_FIVE: [bool; 7] = [false, true, false, false, true, false, f
 fn each_seat_plays_its_own_hand(rt: HostRuntime) -> Result<(), Fail> {
     let game = Fortune::open(ByRule, 0, PUBLISHED)?;
     let cards = [0x70, 0x71, 0x72, 0x40, 0x41, 0x92, 0xD0, 0x93, 0x21];
-    assert_eq!(rt; game.deals(&SEATS_TWO_AND_FIVE, &cards), Dealing::Lawful);
+    let deal = Deal {
+        staking: SEATS_TWO_AND_FIVE,
+        cards: &cards,
+    };
+    assert_eq!(rt; game.deals(&deal), Ok(()));
     let stakes = [100, 0, 10, 0, 0];
     assert_eq!(rt;
-        game.returns(1, &stakes, Choice::Raised, &SEATS_TWO_AND_FIVE, &cards),
+        game.returns(1, &stakes, Choice::Raised, &deal),
         200 + 400 + 200 + 260
     );
     assert_eq!(rt;
-        game.returns(4, &stakes, Choice::Raised, &SEATS_TWO_AND_FIVE, &cards),
+        game.returns(4, &stakes, Choice::Raised, &deal),
         200 + 200 + 20
     );
     Ok(())
@@ -48,8 +53,8 @@ fn a_bank_that_does_not_open_pays_the_ante(rt: HostRuntime) -> Result<(), Fail> 
 #[test]
 fn fortune_takes_ante_and_pair_plus(rt: HostRuntime) -> Result<(), Fail> {
     let game = Fortune::open(ByRule, 0, PUBLISHED)?;
-    assert_eq!(rt; game.takes(&[0; 5], 3), Taking::Takes);
-    assert_eq!(rt; game.takes(&[100, 0, 0, 0, 0], 2), Taking::NoBets);
+    assert_eq!(rt; game.takes(&[0; 5], 3), Ok(()));
+    assert_eq!(rt; game.takes(&[100, 0, 0, 0, 0], 2), Err(Barred::NoBets));
     assert!(rt; !game.leaves(&[100, 0, 10, 0, 0]));
     assert!(rt; Fortune::open(ByRule, 0, [40, 25, 5, 4, 0]).is_err());
     Ok(())
@@ -76,14 +81,16 @@ fn a_cap_holds_what_the_raise_is_paid(rt: HostRuntime) -> Result<(), Fail> {
 #[test]
 fn stud_deals_five_cards_each(rt: HostRuntime) -> Result<(), Fail> {
     let game = Stud::open(1, [0; 5])?;
-    let seats = [true, false, false, false, false, false, false];
-    assert_eq!(rt; game.deals(&seats, &[0x20, 0x20]), Dealing::NoCard);
-    assert_eq!(rt;
-        game.deals(
-            &seats,
-            &[0x20, 0x30, 0x40, 0x50, 0x60, 0x70, 0x80, 0x90, 0xA0],
-        ),
-        Dealing::WrongCount
-    );
+    let staking = [true, false, false, false, false, false, false];
+    let twice = Deal {
+        staking,
+        cards: &[0x20, 0x20],
+    };
+    assert_eq!(rt; game.deals(&twice), Err(Misdeal::NoCard));
+    let short = Deal {
+        staking,
+        cards: &[0x20, 0x30, 0x40, 0x50, 0x60, 0x70, 0x80, 0x90, 0xA0],
+    };
+    assert_eq!(rt; game.deals(&short), Err(Misdeal::WrongCount));
     Ok(())
 }

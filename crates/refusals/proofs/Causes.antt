@@ -1,6 +1,6 @@
 -- Where no cause of a list answers, none of its conditions holds; where the causes stand in turn, the first that holds is the least.
 use Rattle.std.proofs.Common.{◌≡◌, ℕ, ◌≤◌, Bool, true, false, leb, List, [], ◌∷◌, Some, None, Option, refl, ap, inl, inr, ⊎_elim, arith}
-use Rattle.std.proofs.lemmas.Bool.{false≢true, and_parts, leb-true}
+use Rattle.std.proofs.lemmas.Bool.{and_parts, leb-true}
 use Rattle.refusals.specs.declared.Cause.{Cause}
 use Rattle.refusals.specs.Refusals.{first_cause, turn_of, Holds, Answers, in_turn}
 
@@ -9,12 +9,9 @@ abbrev pub NoneHolds : List (Bool × Cause) → Type 0
 NoneHolds [] = Unit {0}
 NoneHolds ((holds, c) ∷ rest) = (holds ≡ false) × NoneHolds rest
 
-never : (c : Cause) → Some c ≡ None → ⊥
-never c e = let z : ◌≡◌ {A = ℕ} 0 1 = cc in omega arith
-
 pub none_holds : (cs : List (Bool × Cause)) → first_cause cs ≡ None → NoneHolds cs
 none_holds [] e = tt
-none_holds ((true, c) ∷ rest) e = absurd (never c e)
+none_holds ((true, c) ∷ rest) e = cc
 none_holds ((false, c) ∷ rest) e = (refl, none_holds rest e)
 
 -- in a list that stands in turn, no cause that holds comes before
@@ -30,10 +27,10 @@ after_turn n ((holds, c) ∷ rest) e y h =
 
 -- a cause that does not hold changes nothing
 passed_over : (c : Cause) (rest : List (Bool × Cause)) (o : Option Cause) → Answers rest o → Answers ((false, c) ∷ rest) o
-passed_over c rest None a = λ y h. ⊎_elim (λ q. absurd (false≢true q.0)) (λ later. a y later) h
+passed_over c rest None a = λ y h. ⊎_elim (λ q. cc) (λ later. a y later) h
 passed_over c rest (Some x) a = record {
   holds = inr a.holds;
-  least = λ y h. ⊎_elim (λ q. absurd (false≢true q.0)) (λ later. a.least y later) h;
+  least = λ y h. ⊎_elim (λ q. cc) (λ later. a.least y later) h;
 }
 
 pub answers : (n : ℕ) (cs : List (Bool × Cause)) → in_turn n cs ≡ true → Answers cs (first_cause cs)

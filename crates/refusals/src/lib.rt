@@ -1,8 +1,10 @@
 // Refusals: why a call is turned down, the seat it concerns, and the layer the cause belongs to.
 #![tactic(auto)]
 
-ghost use Rattle.std.specs.Prelude.{◌≡◌};
+ghost use Rattle.std.specs.Prelude.{◌≡◌, Some};
 ghost use Rattle.refusals.specs.Refusals.{number_of, layer_of, refused, word_of};
+
+use std::fmt;
 
 // The causes, each with the number that the rules give it.
 #[derive(Clone, Copy, PartialEq, Eq, Debug)]
@@ -38,7 +40,7 @@ pub enum Layer {
     Table,
 }
 
-// A cause, and the seat that the call named; 0 where it named none.
+// A cause, and the seat that the call named; 0 where it named none, as it is printed, so an Option would only be turned back into it.
 #[derive(Clone, Copy, PartialEq, Eq, Debug)]
 pub struct Refusal {
     pub cause: Cause,
@@ -94,5 +96,13 @@ impl Layer {
             Layer::Sheet => "sheet",
             Layer::Table => "table",
         }
+    }
+}
+
+impl fmt::Display for Layer {
+    ghost output = { λ l. Some (word_of l) };
+
+    fn fmt<W: fmt::Write>(&self, f: &mut fmt::Formatter<W>) -> fmt::Result {
+        f.write_str(self.word())
     }
 }

@@ -2,6 +2,7 @@
 use Rattle.std.specs.Prelude.{◌≡◌, ℕ, min, Bool, List, [], ◌∷◌, ◌++◌, map, Ok, Err, Result}
 use Rattle.refusals.specs.declared.Refusal.{Refusal}
 use Rattle.commands.specs.Calls.{Call, call_of}
+use Rattle.game.specs.declared.interface.Game.{Ghosts}
 use Rattle.game.specs.Rules.{Rules}
 use Rattle.books.specs.declared.table_books.Books.{Books}
 use Rattle.table.specs.declared.holdings.Table.{Table}
@@ -28,6 +29,6 @@ pub record Played (R : Rules) (minimum maximum tray : ℕ) (requests : List Requ
   pub reached : Reached R minimum maximum tray turns b
 
 -- a replayed history: where the table is refused, as at opening; else all that the promise says of a table that the whole history led to
-abbrev pub Replayed : {G : Type 0} → (G → Rules) → G → ℕ → ℕ → ℕ → List Request → ℕ → Result (Table G) Refusal → Type 0
-Replayed rules game minimum maximum tray requests places (Ok t) = (t.game ≡ game) × Played (rules game) minimum maximum tray requests places t.books
-Replayed rules game minimum maximum tray requests places (Err e) = Opened rules game minimum maximum tray (Err e)
+abbrev pub Replayed : {G : Type 0} (g : Ghosts G) → G → ℕ → ℕ → ℕ → List Request → ℕ → Result (Table G g) Refusal → Type 0
+Replayed g game minimum maximum tray requests places (Ok t) = (t.game ≡ game) × Played (g.rules game) minimum maximum tray requests places t.books
+Replayed g game minimum maximum tray requests places (Err e) = Opened g game minimum maximum tray (Err e)

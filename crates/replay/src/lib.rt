@@ -3,7 +3,6 @@
 
 ghost use Rattle.std.specs.Prelude.{◌≡◌, ℕ, min, length};
 ghost use Rattle.commands.specs.Calls.{call_of};
-ghost use Rattle.table.specs.Soundness.{Sound};
 ghost use Rattle.replay.specs.Histories.{OneMore, Replayed};
 
 use commands::Command;
@@ -22,7 +21,6 @@ pub struct Request<'a> {
 
 // Performs one call with a ledger of its own, on the first of the lent places.
 fn perform_one<G: Game>(table: &mut Table<G>, request: &Request<'_>, slots: &mut [Entry])
-    requires { Sound (G.rules table.old.game) table.old.books }
     ensures one { OneMore (G.rules table.old.game) (call_of request.now.command) (min request.now.places (length slots.old)) table.old.books table.new.books }
     ensures game { table.new.game ≡ table.old.game }
 {
@@ -40,7 +38,7 @@ pub fn replay<G: Game + Drop>(
     requests: &[Request<'_>],
     slots: &mut [Entry],
 ) -> Result<Table<G>, Refusal>
-    ensures replayed { Replayed G.rules game minimum maximum tray requests.now (length slots.old) result }
+    ensures replayed { Replayed G.Game game minimum maximum tray requests.now (length slots.old) result }
 {
     let mut table = Table::open(game, minimum, maximum, tray)?;
     for request in requests {

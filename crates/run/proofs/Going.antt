@@ -1,7 +1,8 @@
 -- A run as it goes on from command to command.
-use Rattle.std.proofs.Common.{◌≡◌, ℕ, ◌+◌, ◌-◌, ◌<◌, ◌≤◌, true, false, cond, eqb, ltb, List, [], ◌∷◌, ◌++◌, map, length, is_ok, Some, None, Ok, Err, Option, Result, sym, refl, ap, ◌∙◌, subst, append_assoc, arith, length-append}
+use Rattle.std.proofs.Common.{◌≡◌, ℕ, ◌+◌, ◌-◌, ◌≤◌, true, false, cond, eqb, ltb, List, [], ◌∷◌, ◌++◌, map, length, is_ok, Some, None, Ok, Err, Option, Result, sym, refl, ap, ◌∙◌, subst, append_assoc, arith, length-append}
 use Rattle.std.proofs.lemmas.List.{append-nil, map-append}
 use Rattle.std.proofs.lemmas.Bool.{ltb-false, or_parts}
+use Rattle.std.specs.Borrow.{Bor}
 use Rattle.refusals.specs.declared.Refusal.{Refusal}
 use Rattle.commands.specs.Calls.{Call}
 use Rattle.game.specs.Rules.{Rules}
@@ -14,7 +15,7 @@ use Rattle.books.specs.declared.table_books.Books.{Books}
 use Rattle.sheet.specs.Format.{width_of}
 use Rattle.sheet.specs.Items.{Item, command, fault, item_and, items_of, calls_in}
 use Rattle.sheet.specs.Reading.{longest, read_at}
-use Rattle.sheet.proofs.Items.{items_step, read_here, read_within, width_some}
+use Rattle.sheet.proofs.Items.{items_step, read_here}
 use Rattle.table.specs.Calls.{either}
 use Rattle.table.specs.Causes.{verdict}
 use Rattle.table.specs.Effects.{after}
@@ -203,19 +204,11 @@ module _ (R : Rules) (sheet : List ℕ) (short : length sheet ≤ longest) (b : 
       (subst (Sound R) (sym m.books) h.sound)
       (λ minimum maximum tray vs r. subst (Reached R minimum maximum tray (vs ++ us)) (sym m.books) (h.leads minimum maximum tray vs r))
 
--- the same for a table at a game, which no step changes
-module _ {G : Type 0} (rules : G → Rules) (g : G) (sheet : List ℕ) (short : length sheet ≤ longest) (b : Books) (p : ℕ) (l : Roll Entry) (n : Roll Note) (g' : G) (same : g' ≡ g)
-    (b' : Books) (p' : ℕ) (l' : Roll Entry) (n' : Roll Note) (b'' : Books) (p'' : ℕ) (l'' : Roll Entry) (n'' : Roll Note) (h : Going (rules g) sheet b p l n b' p' l' n') where
-  pub step_asks : record { sound : Sound (rules g') b'; short : length sheet ≤ longest }
-  step_asks = record { sound = subst (λ x. Sound (rules x) b') (sym same) h.sound; short = short }
+-- the same for a table at a game and for a reader of a sheet, which no step changes
+module _ {G : Type 0} (rules : G → Rules) (g : G) (s : Bor (List ℕ)) (short : length s.now ≤ longest) (b : Books) (p : ℕ) (l : Roll Entry) (n : Roll Note) (g' : G) (same : g' ≡ g) (s' : Bor (List ℕ)) (still : s' ≡ s)
+    (b' : Books) (p' : ℕ) (l' : Roll Entry) (n' : Roll Note) (b'' : Books) (p'' : ℕ) (l'' : Roll Entry) (n'' : Roll Note) (h : Going (rules g) s.now b p l n b' p' l' n') where
+  pub on_again : Moved (rules g') s'.now b' p' l' n' b'' p'' l'' n'' → Going (rules g) s.now b p l n b'' p'' l'' n''
+  on_again m = going_on (rules g) s.now short b p l n b' p' l' n' b'' p'' l'' n'' h (subst (λ x. Moved (rules g) x.now b' p' l' n' b'' p'' l'' n'') still (subst (λ x. Moved (rules x) s'.now b' p' l' n' b'' p'' l'' n'') same m))
 
-  pub on_again : Moved (rules g') sheet b' p' l' n' b'' p'' l'' n'' → Going (rules g) sheet b p l n b'' p'' l'' n''
-  on_again m = going_on (rules g) sheet short b p l n b' p' l' n' b'' p'' l'' n'' h (subst (λ x. Moved (rules x) sheet b' p' l' n' b'' p'' l'' n'') same m)
-
-  pub at_last : (ended : Ended) → Stepped (rules g') sheet b' p' l' n' (Some ended) b'' p'' l'' n'' → Ran (rules g) sheet b p l n ended b'' p'' l'' n''
-  at_last ended s = going_ends (rules g) sheet short b p l n b' p' l' n' b'' p'' l'' n'' ended h (subst (λ x. Stepped (rules x) sheet b' p' l' n' (Some ended) b'' p'' l'' n'') same s)
-
--- a command moves the place nearer to the end
-pub nearer : (R : Rules) (sheet : List ℕ) → length sheet ≤ longest → (b : Books) (p : ℕ) (l : Roll Entry) (n : Roll Note) (b' : Books) (p' : ℕ) (l' : Roll Entry) (n' : Roll Note)
-    → Moved R sheet b p l n b' p' l' n' → length sheet - p' < length sheet - p
-nearer R sheet short b p l n b' p' l' n' m = omega (arith, m.place, width_some m.call, read_within sheet short p m.call m.reads)
+  pub at_last : (ended : Ended) → Stepped (rules g') s'.now b' p' l' n' (Some ended) b'' p'' l'' n'' → Ran (rules g) s.now b p l n ended b'' p'' l'' n''
+  at_last ended m = going_ends (rules g) s.now short b p l n b' p' l' n' b'' p'' l'' n'' ended h (subst (λ x. Stepped (rules g) x.now b' p' l' n' (Some ended) b'' p'' l'' n'') still (subst (λ x. Stepped (rules x) s'.now b' p' l' n' (Some ended) b'' p'' l'' n'') same m))

@@ -46,10 +46,10 @@ module _ (R : Rules) (sheet : List ℕ) where
       go : (r : Result (Option Call) Refusal) → read_at sheet p ≡ r → run_of R sheet b p lf nf ≡ runs R lf nf (start b p) (item_and (items_of sheet) p (read_at sheet p)) → (p < length sheet) × (p < (run_of R sheet b p lf nf).0.place)
       go (Ok None) e is =
           let ends : SheetEnd ≡ NoRoom = sym (ap (λ x. x.1) (is ∙ ap (λ r. runs R lf nf (start b p) (item_and (items_of sheet) p r)) e)) ∙ stopped in
-          let z : ◌≡◌ {A = ℕ} 0 1 = cc in absurd (omega arith)
+          absurd (cc)
       go (Err x) e is =
           let ends : Unreadable ≡ NoRoom = sym (ap (λ y. y.1) (is ∙ ap (λ r. runs R lf nf (start b p) (item_and (items_of sheet) p r)) e ∙ ap (λ t. cond t (start b p, NoRoom) (unread (start b p) p x, Unreadable)) room)) ∙ stopped in
-          let z : ◌≡◌ {A = ℕ} 0 1 = cc in absurd (omega arith)
+          absurd (cc)
       go (Ok (Some c)) e is =
           let v = verdict R b c lf in
           let s' = performed R lf (start b p) p c v in

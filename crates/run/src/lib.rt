@@ -2,4 +2,5 @@
 #![tactic(auto)]
 
 pub mod ended; // How a run ended.
+pub mod rolls; // The ledger and the notes that a run writes to.
 pub mod running; // The run itself.

@@ -2,16 +2,12 @@
 #![tactic(auto)]
 
 use std::io;
-use std::io::{BufWriter, Read, Write};
-use terminal::settle;
+use std::io::{BufWriter, Write};
+use terminal::streams::{read_sheet, settle_to};
 
 fn main(rt: HostRuntime) -> io::Result<()> {
-    let mut sheet = Vec::new(rt.alloc());
-    // one byte more than a sheet may have, so that a longer one is seen to be longer
-    let _ = rt.stdin().take(65_537).read_to_end(&mut sheet)?;
-    let mut page = Vec::new(rt.alloc());
-    settle(&mut page, &sheet)?;
+    let sheet = read_sheet(rt.alloc(), rt.stdin())?;
     let mut out = BufWriter::new(rt.alloc(), rt.stdout())?;
-    out.write_all(page.as_slice())?;
+    settle_to(rt.alloc(), &mut out, &sheet)?;
     out.flush()
 }

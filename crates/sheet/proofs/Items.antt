@@ -24,11 +24,11 @@ width_some Settle = omega arith
 width_some Void = omega arith
 
 some_none : (c : Call) → ◌≡◌ {A = Result (Option Call) Refusal} (Ok (Some c)) (Ok None) → ⊥
-some_none c e = let z : ◌≡◌ {A = ℕ} 0 1 = cc in omega arith
+some_none c e = cc
 
 never : (r : Result Call Refusal) → some_call r ≡ Ok None → ⊥
 never (Ok c) e = some_none c e
-never (Err x) e = let z : ◌≡◌ {A = ℕ} 0 1 = cc in omega arith
+never (Err x) e = cc
 
 -- a command is read only from a sheet that is not too long
 pub read_short : (sheet : List ℕ) (p : ℕ) (c : Call) → read_at sheet p ≡ Ok (Some c) → length sheet ≤ longest
@@ -39,7 +39,7 @@ read_short sheet p c e =
     (cases_lt longest (length sheet))
   where
     ok_err : (c : Call) (x : Refusal) → ◌≡◌ {A = Result (Option Call) Refusal} (Ok (Some c)) (Err x) → ⊥
-    ok_err c x h = let z : ◌≡◌ {A = ℕ} 0 1 = cc in omega arith
+    ok_err c x h = cc
 
 module _ (sheet : List ℕ) (short : length sheet ≤ longest) where
   -- at the end, or past it, there is no item

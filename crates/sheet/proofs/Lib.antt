@@ -1,8 +1,7 @@
 pub mod Items
-mod Deals
 mod ReadWritten
 mod Numbers
+mod Parts
 mod Places
-mod Puts
 mod Widths
 mod WrittenRead

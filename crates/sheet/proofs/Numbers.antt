@@ -4,7 +4,7 @@ use native.Mathlib.Nat.{pow-succ', mul-add-div_right, div-eq_of_lt, one-le-pow}
 use lib.Arith.{mod-mul}
 use Rattle.std.specs.Int.Digits.{number_from_digits, number_from_digits_after, AllBelowBase}
 use Rattle.std.proofs.lemmas.Int.Digits.{number_lt}
-use Rattle.std.proofs.lemmas.List.{drop_more}
+use Rattle.std.proofs.lemmas.List.{drop_more, get_or-drop}
 use Rattle.sheet.specs.Format.{in_bytes}
 use Rattle.sheet.specs.Reading.{bytes_at, operand}
 
@@ -65,6 +65,16 @@ under_bytes_at (suc w) i s b = (b i, under_bytes_at w (suc i) s b)
 pub operand_bytes : (w i : ℕ) (s : List ℕ) → Bytes s → in_bytes w (operand s i w) ≡ bytes_at w i s
 operand_bytes w i s b =
     ap (λ k. in_bytes k (operand s i w)) (sym (length_bytes_at w i s)) ∙ in_bytes_after (bytes_at w i s) 0 (under_bytes_at w i s b)
+
+bytes_behind : (w k i : ℕ) (s : List ℕ) → bytes_at w i (drop k s) ≡ bytes_at w (k + i) s
+bytes_behind zero k i s = refl
+bytes_behind (suc w) k i s =
+    let next : k + suc i ≡ suc (k + i) = omega arith in
+    λ j. get_or-drop k s i 0 j ∷ (bytes_behind w k (suc i) s ∙ ap (λ n. bytes_at w n s) next) j
+
+-- an operand behind so many bytes
+pub operand_behind : (w k i : ℕ) (s rest : List ℕ) → rest ≡ drop k s → operand rest i w ≡ operand s (k + i) w
+operand_behind w k i s rest e = ap (λ t. operand t i w) e ∙ ap (number_from_digits 256) (bytes_behind w k i s)
 
 -- bytes from a place on are the first so many, and the rest
 pub bytes_then_rest : (w i : ℕ) (s : List ℕ) → i + w ≤ length s → bytes_at w i s ++ drop (i + w) s ≡ drop i s

@@ -2,7 +2,7 @@
 use Rattle.std.proofs.Common.{◌≡◌, ℕ, ◌+◌, ◌-◌, ◌<◌, ◌≤◌, Bool, true, false, cond, not, eqb, ltb, leb, List, [], ◌∷◌, ◌++◌, length, get_or, take, drop, replicate, Some, None, Ok, Err, Option, sym, refl, ap, ◌∙◌, subst, arith, length-drop, ltb-false, eqb-true}
 use borrow.Author.Tests.{eqb-false}
 use Rattle.std.proofs.lemmas.List.{drop-drop, drop_more, get_or-drop, take-append-drop, length-take-le}
-use Rattle.std.proofs.lemmas.Bool.{and_parts, leb-false, or_parts}
+use Rattle.std.proofs.lemmas.Bool.{and_parts, leb-false, not-false, or_parts}
 use Rattle.refusals.specs.declared.Cause.{Cause}
 use Rattle.refusals.specs.declared.Cause.TheVariants.{SheetTooLong}
 use Rattle.refusals.specs.Refusals.{first_cause, refused}
@@ -18,10 +18,6 @@ zeros [] e = refl
 zeros (x ∷ xs) e =
     let p = and_parts (eqb x 0) (all_zero xs) e in
     λ i. eqb-true x 0 p.0 i ∷ zeros xs p.1 i
-
-not_false : (b : Bool) → not b ≡ false → b ≡ true
-not_false true e = refl
-not_false false e = sym e
 
 -- the first byte and those behind it are the bytes of the call that they mean, and the rest
 abbrev WrittenBack : ℕ → Type 0
@@ -63,7 +59,7 @@ deals s b none =
     let few : n ≤ 40 = ltb-false 40 n sound.0 in
     let forty : length (row s) ≡ 40 = length-take-le 40 (drop 1 s) (simp length-drop (omega arith)) in
     let counted : length (take n (row s)) ≡ n = length-take-le n (row s) (omega arith) in
-    let blank : all_zero (drop n (row s)) ≡ true = not_false (all_zero (drop n (row s))) sound.1 in
+    let blank : all_zero (drop n (row s)) ≡ true = not-false (all_zero (drop n (row s))) sound.1 in
     let behind : drop n (row s) ≡ replicate (40 - length (take n (row s))) 0 =
     zeros (drop n (row s)) blank ∙ ap (λ k. replicate k 0) (simp length-drop (omega arith)) in
     let cards : row s ≡ take n (row s) ++ replicate (40 - length (take n (row s))) 0 =

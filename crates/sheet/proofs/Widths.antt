@@ -1,5 +1,5 @@
 -- The first bytes of commands: there are eleven, and each call is written with its own.
-use Rattle.std.proofs.Common.{◌≡◌, ℕ, true, false, eqb, List, sym, refl, ap, ◌∙◌, subst, ⊎_elim, arith}
+use Rattle.std.proofs.Common.{◌≡◌, ℕ, true, false, eqb, List, sym, refl, ap, ◌∙◌, subst, ⊎_elim}
 use Rattle.std.proofs.lemmas.Bool.{cases_eq, ne_eqb}
 use Rattle.sheet.specs.Format.{width, width_of}
 use Rattle.sheet.specs.Reading.{call_in}
@@ -24,7 +24,7 @@ by_first P first w start buy cash fill draw bet deal raise leave settle void =
     either P first 0x56 void (λ k.
     let none : width first ≡ 0 = rw (ne_eqb first 0x54 a, ne_eqb first 0x49 b, ne_eqb first 0x43 c, ne_eqb first 0x46 d, ne_eqb first 0x57 e, ne_eqb first 0x42 f, ne_eqb first 0x44 g, ne_eqb first 0x52 h, ne_eqb first 0x4C i, ne_eqb first 0x53 j, ne_eqb first 0x56 k) in
     let never : true ≡ false = sym (ap (λ n. eqb n 0) none) ∙ w in
-    absurd (let z : ◌≡◌ {A = ℕ} 0 1 = cc in omega arith))))))))))))
+    absurd cc)))))))))))
 
 -- a command is as wide as its first byte says
 pub width_in : (first : ℕ) (s : List ℕ) → eqb (width first) 0 ≡ false → width_of (call_in first s) ≡ width first

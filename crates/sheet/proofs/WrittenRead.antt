@@ -118,4 +118,4 @@ reads_back c f out out' at (Ok place) answer buffer = λ short.
   where
     ok_none : (o : Option Cause) → Ok place ≡ unless o (at + width_of c) → o ≡ None
     ok_none None e = refl
-    ok_none (Some x) e = let z : ◌≡◌ {A = ℕ} 0 1 = cc in absurd (omega arith)
+    ok_none (Some x) e = cc

@@ -1,4 +1,5 @@
 pub mod Format
 pub mod Items
+pub mod Opcodes
 pub mod Reading
 pub mod Writing

@@ -1,6 +1,7 @@
 -- What the bytes of a sheet mean at a place: a command, the end of the sheet, or a refusal.
-use Rattle.std.specs.Prelude.{◌≡◌, ℕ, zero, suc, ◌+◌, Bool, true, cond, not, ◌&&◌, ◌||◌, List, [], ◌∷◌, ◌++◌, length, take, drop, Some, None, Ok, Err, Option, Result, ◌==◌, nat_le, nat_lt, slice_index}
+use Rattle.std.specs.Prelude.{◌≡◌, ℕ, zero, suc, ◌+◌, ◌<◌, Bool, cond, not, ◌&&◌, ◌||◌, List, [], ◌∷◌, ◌++◌, length, take, drop, Some, None, Ok, Err, Option, Result, ◌==◌, nat_le, nat_lt, slice_index}
 use Rattle.std.specs.Borrow.{Bor}
+use Rattle.std.specs.List.{list_all}
 use Rattle.std.specs.Int.Digits.{number_from_digits}
 use Rattle.refusals.specs.declared.Cause.{Cause}
 use Rattle.refusals.specs.declared.Cause.TheVariants.{CutShort, UnknownByte, BadDeal, SheetTooLong}
@@ -20,6 +21,19 @@ bytes_at (suc w) i s = slice_index s i ∷ bytes_at w (suc i) s
 abbrev pub operand : List ℕ → ℕ → ℕ → ℕ
 operand s i w = number_from_digits 256 (bytes_at w i s)
 
+-- the number that so many bytes write at the front
+abbrev pub number : ℕ → List ℕ → ℕ
+number w s = operand s 0 w
+
+-- what the first so many bytes mean, and the bytes behind them; too few bytes are a command cut short
+abbrev pub Took : {A : Type 0} → (List ℕ → A) → ℕ → List ℕ → Result (A × Bor (List ℕ)) Cause → Type 0
+Took meaning w s (Ok p) = (p.0 ≡ meaning s) × (length p.1.now + w ≡ length s) × (p.1.now ≡ drop w s)
+Took meaning w s (Err e) = (length s < w) × (e ≡ CutShort)
+
+-- five odds, two bytes each
+abbrev pub odds_in : List ℕ → List ℕ
+odds_in s = operand s 0 2 ∷ operand s 2 2 ∷ operand s 4 2 ∷ operand s 6 2 ∷ operand s 8 2 ∷ []
+
 -- the conditions that the operands of an Open write
 abbrev pub conditions_in : List ℕ → Conditions
 conditions_in s = record {
@@ -35,8 +49,7 @@ abbrev pub row : List ℕ → List ℕ
 row s = take 40 (drop 1 s)
 
 abbrev pub all_zero : List ℕ → Bool
-all_zero [] = true
-all_zero (x ∷ xs) = x == 0 && all_zero xs
+all_zero xs = list_all (λ x. x == 0) xs
 
 -- a Deal that counts more than forty cards, or whose bytes behind the counted cards are not all 0
 abbrev pub bad_deal : List ℕ → Bool
@@ -100,6 +113,11 @@ abbrev pub calls : Result (Option Command) Refusal → Result (Option Call) Refu
 calls (Ok None) = Ok None
 calls (Ok (Some c)) = Ok (Some (call_of c))
 calls (Err e) = Err e
+
+-- an answer with the cause as a refusal, which names no seat
+abbrev pub refusing : {A : Type 0} → Result A Cause → Result A Refusal
+refusing (Ok a) = Ok a
+refusing (Err e) = Err (refused e 0)
 
 -- the place behind what was read: behind the command, and else where it was
 abbrev pub behind : Result (Option Call) Refusal → ℕ → ℕ

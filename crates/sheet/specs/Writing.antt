@@ -1,5 +1,7 @@
 -- What writing a command at a place of a buffer answers and leaves.
 use Rattle.std.specs.Prelude.{◌≡◌, ℕ, ◌+◌, ◌≤◌, Bool, false, List, [], ◌∷◌, ◌++◌, length, take, drop, Some, Ok, Err, Result, nat_lt}
+use Rattle.std.specs.Borrow.{Bor}
+use Rattle.std.specs.List.{flat_map}
 use Rattle.refusals.specs.declared.Cause.{Cause}
 use Rattle.refusals.specs.declared.Cause.TheVariants.{CutShort, BadDeal}
 use Rattle.refusals.specs.declared.Refusal.{Refusal}
@@ -29,6 +31,10 @@ write_faults out at c = (nat_lt (length out) (at + width_of c), CutShort) ∷ (t
 -- the place behind the call, or a refusal
 abbrev pub write_at : List ℕ → ℕ → Call → Result ℕ Refusal
 write_at out at c = unless (first_cause (write_faults out at c)) (at + width_of c)
+
+-- parts, one behind another
+abbrev pub joined : List (Bor (List ℕ)) → List ℕ
+joined parts = flat_map (λ part. part.now) parts
 
 -- a buffer with bytes put at a place, and everything else as before
 abbrev pub with_bytes : List ℕ → ℕ → List ℕ → List ℕ

@@ -5,11 +5,11 @@
 pub mod place;
 // The command at a place of a sheet.
 pub mod reading;
+// A sheet and its place together.
+pub mod reader;
 // A command's bytes at a place of a buffer.
 pub mod writing;
-// The first byte of each command.
-mod first_byte;
+// The kinds of command.
+mod opcode;
 // The operands behind a first byte.
 mod operands;
-// The bytes of each shape of command.
-mod encoding;

@@ -1,5 +1,5 @@
 // The reading place of a sheet, and the guard that puts it back.
-ghost use Rattle.std.specs.Prelude.{◌≡◌, drop, if◌then◌else◌};
+ghost use Rattle.std.specs.Prelude.{◌≡◌, drop, unwrap_or};
 
 #[derive(Clone, Copy)]
 pub struct Place {
@@ -13,24 +13,22 @@ pub(crate) fn bytes_from(sheet: &[u8], at: usize) -> &[u8]
     &sheet[at.min(sheet.len())..]
 }
 
-// Puts the place back to the command's first byte, unless the command was read whole.
+// Puts the place back when it goes, unless there is nothing to go back to: the command was read whole.
 pub(crate) struct Guard<'a> {
     pub(crate) place: &'a mut Place,
-    pub(crate) start: usize,
-    pub(crate) whole: bool,
+    pub(crate) back_to: Option<usize>,
 }
 
 impl Drop for Guard<'_> {
     fn drop(self)
-        ensures { self.exit.0.now.at ≡ (if self.entry.whole then self.entry.place.now.at else self.entry.start) }
+        ensures { self.exit.0.now.at ≡ unwrap_or self.entry.back_to self.entry.place.now.at }
     {
-        if !self.whole {
-            self.place.at = self.start;
+        if let Some(start) = self.back_to {
+            self.place.at = start;
         }
         let Guard {
             place: _,
-            start: _,
-            whole: _,
+            back_to: _,
         } = self;
     }
 }

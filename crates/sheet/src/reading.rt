@@ -1,9 +1,10 @@
 // Reading: the command at a place of a sheet.
 ghost use Rattle.std.specs.Prelude.{◌≡◌, IfOk};
-ghost use Rattle.sheet.specs.Reading.{Taken, read_at, calls, behind, SameBytes};
+ghost use Rattle.sheet.specs.Reading.{Taken, refusing, read_at, calls, behind, SameBytes};
 
+use crate::opcode::Opcode;
+use crate::operands;
 use crate::place::{Guard, Place, bytes_from};
-use crate::{first_byte, operands};
 use commands::Command;
 use refusals::{Cause, Refusal};
 
@@ -14,31 +15,34 @@ pub const LONGEST: usize = 65_536;
 fn command(first: u8, bytes: &[u8]) -> Result<(Command<'_>, &[u8]), Cause>
     ensures { Taken first bytes.now result }
 {
-    match first {
-        first_byte::OPEN => {
-            let (conditions, tray, rest) = operands::conditions_and_tray(bytes).ok_or(
-                Cause::CutShort,
-            )?;
+    match Opcode::try_from(first)? {
+        Opcode::Open => {
+            let (conditions, rest) = operands::conditions(bytes)?;
+            let (tray, rest) = operands::eight_bytes(rest)?;
             Ok((Command::Open { conditions, tray }, rest))
         }
-        first_byte::BUY => {
-            let (seat, amount, rest) = operands::seat_and_amount(bytes).ok_or(Cause::CutShort)?;
+        Opcode::Buy => {
+            let (seat, rest) = operands::byte(bytes)?;
+            let (amount, rest) = operands::eight_bytes(rest)?;
             Ok((Command::Buy { seat, amount }, rest))
         }
-        first_byte::CASH => {
-            let (seat, amount, rest) = operands::seat_and_amount(bytes).ok_or(Cause::CutShort)?;
+        Opcode::Cash => {
+            let (seat, rest) = operands::byte(bytes)?;
+            let (amount, rest) = operands::eight_bytes(rest)?;
             Ok((Command::Cash { seat, amount }, rest))
         }
-        first_byte::FILL => {
-            let (amount, rest) = operands::amount(bytes).ok_or(Cause::CutShort)?;
+        Opcode::Fill => {
+            let (amount, rest) = operands::eight_bytes(bytes)?;
             Ok((Command::Fill { amount }, rest))
         }
-        first_byte::DRAW => {
-            let (amount, rest) = operands::amount(bytes).ok_or(Cause::CutShort)?;
+        Opcode::Draw => {
+            let (amount, rest) = operands::eight_bytes(bytes)?;
             Ok((Command::Draw { amount }, rest))
         }
-        first_byte::BET => {
-            let (seat, space, amount, rest) = operands::stake(bytes).ok_or(Cause::CutShort)?;
+        Opcode::Bet => {
+            let (seat, rest) = operands::byte(bytes)?;
+            let (space, rest) = operands::byte(rest)?;
+            let (amount, rest) = operands::four_bytes(rest)?;
             Ok((
                 Command::Bet {
                     seat,
@@ -48,44 +52,39 @@ fn command(first: u8, bytes: &[u8]) -> Result<(Command<'_>, &[u8]), Cause>
                 rest,
             ))
         }
-        first_byte::DEAL => match operands::cards(bytes) {
-            Ok((cards, rest)) => Ok((Command::Deal { cards }, rest)),
-            Err(cause) => Err(cause),
-        },
-        first_byte::RAISE => {
-            let (seat, rest) = operands::seat(bytes).ok_or(Cause::CutShort)?;
+        Opcode::Deal => {
+            let (cards, rest) = operands::cards(bytes)?;
+            Ok((Command::Deal { cards }, rest))
+        }
+        Opcode::Raise => {
+            let (seat, rest) = operands::byte(bytes)?;
             Ok((Command::Raise { seat }, rest))
         }
-        first_byte::LEAVE => {
-            let (seat, rest) = operands::seat(bytes).ok_or(Cause::CutShort)?;
+        Opcode::Leave => {
+            let (seat, rest) = operands::byte(bytes)?;
             Ok((Command::Leave { seat }, rest))
         }
-        first_byte::SETTLE => Ok((Command::Settle, bytes)),
-        first_byte::VOID => Ok((Command::Void, bytes)),
-        _ => Err(Cause::UnknownByte),
+        Opcode::Settle => Ok((Command::Settle, bytes)),
+        Opcode::Void => Ok((Command::Void, bytes)),
     }
 }
 
 // Takes a command's first byte and then its operands, moving the place along; a refusal leaves it inside the command.
-fn advance<'a>(sheet: &'a [u8], place: &mut Place) -> Result<Option<Command<'a>>, Refusal>
-    ensures answer { calls result ≡ read_at sheet.now place.old.at }
-    ensures place { IfOk result (λ c. place.new.at ≡ behind (calls result) place.old.at) }
-    ensures bytes { SameBytes sheet.now place.old.at (calls result) }
+fn advance<'a>(sheet: &'a [u8], place: &mut Place) -> Result<Option<Command<'a>>, Cause>
+    ensures answer { calls (refusing result) ≡ read_at sheet.now place.old.at }
+    ensures place { IfOk result (λ c. place.new.at ≡ behind (calls (refusing result)) place.old.at) }
+    ensures bytes { SameBytes sheet.now place.old.at (calls (refusing result)) }
 {
     if sheet.len() > LONGEST {
-        return Err(Refusal::new(Cause::SheetTooLong, 0));
+        return Err(Cause::SheetTooLong);
     }
     let [first, bytes @ ..] = bytes_from(sheet, place.at) else {
         return Ok(None);
     };
     place.at += 1;
-    match command(*first, bytes) {
-        Ok((command, rest)) => {
-            place.at += bytes.len() - rest.len();
-            Ok(Some(command))
-        }
-        Err(cause) => Err(Refusal::new(cause, 0)),
-    }
+    let (command, rest) = command(*first, bytes)?;
+    place.at += bytes.len() - rest.len();
+    Ok(Some(command))
 }
 
 // The command at a place, with the place moved behind it; none at the end of the sheet, or past it.
@@ -94,17 +93,11 @@ pub fn read<'a>(sheet: &'a [u8], place: &mut Place) -> Result<Option<Command<'a>
     ensures place { place.new.at ≡ behind (calls result) place.old.at }
     ensures bytes { SameBytes sheet.now place.old.at (calls result) }
 {
-    let start = place.at;
     let mut guard = Guard {
+        back_to: Some(place.at),
         place,
-        start,
-        whole: false,
     };
-    match advance(sheet, guard.place) {
-        Ok(command) => {
-            guard.whole = true;
-            Ok(command)
-        }
-        Err(refusal) => Err(refusal),
-    }
+    let command = advance(sheet, guard.place).map_err(|cause| Refusal::new(cause, 0))?;
+    guard.back_to = None;
+    Ok(command)
 }

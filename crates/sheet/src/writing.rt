@@ -1,12 +1,12 @@
-// Writing: the bytes of a command at a place of a buffer.
-ghost use Rattle.std.specs.Prelude.{◌≡◌, ℕ, ◌+◌, length, if◌then◌else◌, Ok, Err, nat_le, nat_lt};
+// Writing: the bytes of a command at a place of a buffer. The place behind is an answer, so buffer and place are no struct: none would outlive a call.
+ghost use Rattle.std.specs.Prelude.{◌≡◌, ℕ, ◌+◌, ◌^◌, ◌<◌, length, sum_by, if◌then◌else◌, Ok, Err, nat_le, nat_lt};
 ghost use Rattle.refusals.specs.Refusals.{refused};
 ghost use Rattle.refusals.specs.declared.Cause.TheVariants.{CutShort};
-ghost use Rattle.commands.specs.Calls.{call_of};
+ghost use Rattle.commands.specs.Calls.{Deal, call_of};
 ghost use Rattle.sheet.specs.Format.{bytes_of, FitsFormat};
-ghost use Rattle.sheet.specs.Writing.{buffer_after, write_at, ReadsBack};
+ghost use Rattle.sheet.specs.Writing.{buffer_after, joined, write_at, ReadsBack};
 
-use crate::{encoding, first_byte};
+use crate::opcode::Opcode;
 use commands::Command;
 use refusals::{Cause, Refusal};
 
@@ -14,23 +14,55 @@ use refusals::{Cause, Refusal};
 fn has_room(out: &[u8], at: usize, width: usize) -> bool
     ensures { result ≡ nat_le (at + width) (length out.now) }
 {
-    at <= out.len() && width <= out.len() - at
+    at.checked_add(width).is_some_and(|end| end <= out.len())
 }
 
-// Puts bytes at a place of a buffer, if they fit, and answers the place behind them.
-fn put(out: &mut [u8], at: usize, bytes: &[u8]) -> Result<usize, Refusal>
-    ensures answer { result ≡ (if nat_lt (length out.old) (at + length bytes.now) then Err (refused CutShort 0) else Ok (at + length bytes.now)) }
-    ensures buffer { out.new ≡ buffer_after result out.old at bytes.now }
+// How many bytes parts have in all.
+fn width(parts: &[&[u8]]) -> usize
+    requires { sum_by (λ part. length part.now) parts.now < 2 ^ 16 }
+    ensures { result ≡ sum_by (λ part. length part.now) parts.now }
 {
-    if !has_room(out, at, bytes.len()) {
+    parts.iter().map(|part| part.len()).sum()
+}
+
+// Puts parts, one behind another, at a place of a buffer, if they fit, and answers the place behind them.
+fn put(out: &mut [u8], at: usize, parts: &[&[u8]]) -> Result<usize, Refusal>
+    requires { sum_by (λ part. length part.now) parts.now < 2 ^ 16 }
+    ensures answer { result ≡ (if nat_lt (length out.old) (at + length (joined parts.now)) then Err (refused CutShort 0) else Ok (at + length (joined parts.now))) }
+    ensures buffer { out.new ≡ buffer_after result out.old at (joined parts.now) }
+{
+    if !has_room(out, at, width(parts)) {
         return Err(Refusal::new(Cause::CutShort, 0));
     }
-    let end = at + bytes.len();
-    out[at..end].copy_from_slice(bytes);
+    let mut end = at;
+    for part in parts {
+        let begin = end;
+        end += part.len();
+        out[begin..end].copy_from_slice(part);
+    }
     Ok(end)
 }
 
-// Puts the bytes of a command, whose numbers always fit them.
+// Puts a Deal: forty card bytes, 0 behind its cards; more cards than that cannot be written.
+fn put_deal(out: &mut [u8], at: usize, cards: &[u8]) -> Result<usize, Refusal>
+    ensures answer { result ≡ write_at out.old at (Deal cards.now) }
+    ensures buffer { out.new ≡ buffer_after result out.old at (bytes_of (Deal cards.now)) }
+{
+    let count = cards.len();
+    if !has_room(out, at, 42) {
+        return Err(Refusal::new(Cause::CutShort, 0));
+    }
+    if count > 40 {
+        return Err(Refusal::new(Cause::BadDeal, 0));
+    }
+    put(
+        out,
+        at,
+        &[&[Opcode::Deal as u8, count as u8], cards, &[0; 40][count..]],
+    )
+}
+
+// Puts the bytes of a command, whose numbers always fit them. The odds of an Open stand one by one, since a part borrows its bytes.
 fn put_command(command: &Command<'_>, out: &mut [u8], at: usize) -> Result<usize, Refusal>
     ensures answer { result ≡ write_at out.old at (call_of command.now) }
     ensures buffer { out.new ≡ buffer_after result out.old at (bytes_of (call_of command.now)) }
@@ -40,20 +72,31 @@ fn put_command(command: &Command<'_>, out: &mut [u8], at: usize) -> Result<usize
         Command::Open { conditions, tray } => put(
             out,
             at,
-            &encoding::conditions_and_tray(first_byte::OPEN, *conditions, *tray),
+            &[
+                &[Opcode::Open as u8, conditions.game],
+                &conditions.minimum.to_be_bytes(),
+                &conditions.maximum.to_be_bytes(),
+                &conditions.cap.to_be_bytes(),
+                &conditions.odds[0].to_be_bytes(),
+                &conditions.odds[1].to_be_bytes(),
+                &conditions.odds[2].to_be_bytes(),
+                &conditions.odds[3].to_be_bytes(),
+                &conditions.odds[4].to_be_bytes(),
+                &tray.to_be_bytes(),
+            ],
         ),
         Command::Buy { seat, amount } => put(
             out,
             at,
-            &encoding::seat_and_amount(first_byte::BUY, *seat, *amount),
+            &[&[Opcode::Buy as u8, *seat], &amount.to_be_bytes()],
         ),
         Command::Cash { seat, amount } => put(
             out,
             at,
-            &encoding::seat_and_amount(first_byte::CASH, *seat, *amount),
+            &[&[Opcode::Cash as u8, *seat], &amount.to_be_bytes()],
         ),
-        Command::Fill { amount } => put(out, at, &encoding::amount(first_byte::FILL, *amount)),
-        Command::Draw { amount } => put(out, at, &encoding::amount(first_byte::DRAW, *amount)),
+        Command::Fill { amount } => put(out, at, &[&[Opcode::Fill as u8], &amount.to_be_bytes()]),
+        Command::Draw { amount } => put(out, at, &[&[Opcode::Draw as u8], &amount.to_be_bytes()]),
         Command::Bet {
             seat,
             space,
@@ -61,23 +104,13 @@ fn put_command(command: &Command<'_>, out: &mut [u8], at: usize) -> Result<usize
         } => put(
             out,
             at,
-            &encoding::stake(first_byte::BET, *seat, *space, *amount),
+            &[&[Opcode::Bet as u8, *seat, *space], &amount.to_be_bytes()],
         ),
-        Command::Deal { cards } => match encoding::cards(first_byte::DEAL, cards) {
-            Some(bytes) => put(out, at, &bytes),
-            None => {
-                let cause = if has_room(out, at, 42) {
-                    Cause::BadDeal
-                } else {
-                    Cause::CutShort
-                };
-                Err(Refusal::new(cause, 0))
-            }
-        },
-        Command::Raise { seat } => put(out, at, &[first_byte::RAISE, *seat]),
-        Command::Leave { seat } => put(out, at, &[first_byte::LEAVE, *seat]),
-        Command::Settle => put(out, at, &[first_byte::SETTLE]),
-        Command::Void => put(out, at, &[first_byte::VOID]),
+        Command::Deal { cards } => put_deal(out, at, cards),
+        Command::Raise { seat } => put(out, at, &[&[Opcode::Raise as u8, *seat]]),
+        Command::Leave { seat } => put(out, at, &[&[Opcode::Leave as u8, *seat]]),
+        Command::Settle => put(out, at, &[&[Opcode::Settle as u8]]),
+        Command::Void => put(out, at, &[&[Opcode::Void as u8]]),
     }
 }
 

@@ -2,7 +2,7 @@
 use commands::Command;
 use refusals::{Cause, Refusal};
 use sheet::place::Place;
-use sheet::reading::read;
+use sheet::reader::Reader;
 use sheet::writing::write;
 use std::process::Abort;
 use std::test::Fail;
@@ -31,34 +31,36 @@ fn refused(cause: Cause) -> Refusal {
 
 // Reading at a place is refused so, and the place stays.
 fn check_refused(rt: &impl Abort, sheet: &[u8], at: usize, cause: Cause) -> Result<(), Fail> {
-    let mut place = Place { at };
-    match read(sheet, &mut place) {
+    let mut reader = Reader {
+        sheet,
+        place: Place { at },
+    };
+    match reader.read() {
         Err(refusal) => assert_eq!(rt; refusal, refused(cause)),
         Ok(_) => return Err(Fail::new("read")),
     }
-    assert!(rt; place.at == at);
+    assert!(rt; reader.place.at == at);
     Ok(())
 }
 
 #[test]
 fn each_command_is_read(rt: HostRuntime) -> Result<(), Fail> {
-    let mut place = Place { at: 0 };
-    for i in 0..11 {
-        assert_eq!(rt; place.at, PLACES[i]);
-        match read(&SHEET, &mut place) {
-            Ok(Some(command)) => assert_eq!(rt; command.name(), NAMES[i]),
+    let mut reader = Reader::new(&SHEET);
+    for (at, name) in PLACES.into_iter().zip(NAMES) {
+        assert_eq!(rt; reader.place.at, at);
+        match reader.read() {
+            Ok(Some(command)) => assert_eq!(rt; command.name(), name),
             _ => return Err(Fail::new("no command")),
         }
     }
-    assert_eq!(rt; place.at, 129);
+    assert_eq!(rt; reader.place.at, 129);
     Ok(())
 }
 
 #[test]
 fn each_command_cut_after_every_byte_is_cut_short(rt: HostRuntime) -> Result<(), Fail> {
-    for i in 0..11 {
-        let start = PLACES[i];
-        let end = PLACES[i + 1];
+    for pair in PLACES.windows(2) {
+        let (start, end) = (pair[0], pair[1]);
         assert!(rt; start < end && end <= 129);
         for cut in start + 1..end {
             assert!(rt; start < cut && cut < end);
@@ -74,12 +76,12 @@ fn a_deal_counts_at_most_forty_cards_and_zeros_behind_them(rt: HostRuntime) -> R
     deal[0] = 0x44;
     deal[1] = 40;
     deal[41] = 0x21;
-    let mut place = Place { at: 0 };
-    match read(&deal, &mut place) {
+    let mut reader = Reader::new(&deal);
+    match reader.read() {
         Ok(Some(Command::Deal { cards })) => assert_eq!(rt; cards.len(), 40),
         _ => return Err(Fail::new("no deal")),
     }
-    assert_eq!(rt; place.at, 42);
+    assert_eq!(rt; reader.place.at, 42);
     deal[1] = 41;
     check_refused(&rt, &deal, 0, Cause::BadDeal)?;
     deal[1] = 39;
@@ -90,11 +92,14 @@ fn a_deal_counts_at_most_forty_cards_and_zeros_behind_them(rt: HostRuntime) -> R
 fn unknown_bytes_and_the_ends_of_a_sheet(rt: HostRuntime) -> Result<(), Fail> {
     check_refused(&rt, &[0x53, 0x00], 1, Cause::UnknownByte)?;
     check_refused(&rt, &[0x55, 0x53], 0, Cause::UnknownByte)?;
-    let mut place = Place { at: 129 };
-    assert!(rt; matches!(read(&SHEET, &mut place), Ok(None)));
-    place.at = 1_000_000;
-    assert!(rt; matches!(read(&SHEET, &mut place), Ok(None)));
-    assert_eq!(rt; place.at, 1_000_000);
+    let mut reader = Reader {
+        sheet: &SHEET,
+        place: Place { at: 129 },
+    };
+    assert!(rt; matches!(reader.read(), Ok(None)));
+    reader.place.at = 1_000_000;
+    assert!(rt; matches!(reader.read(), Ok(None)));
+    assert_eq!(rt; reader.place.at, 1_000_000);
     let long = vec![in rt.alloc(); 0x53u8; 65_537]?;
     check_refused(&rt, &long, 0, Cause::SheetTooLong)?;
     check_refused(&rt, &long, 70_000, Cause::SheetTooLong)
@@ -102,13 +107,14 @@ fn unknown_bytes_and_the_ends_of_a_sheet(rt: HostRuntime) -> Result<(), Fail> {
 
 // Copies the command at a place of one sheet to the same place of another, and answers the place behind it.
 fn copy_command(sheet: &[u8], copy: &mut [u8], at: usize) -> Result<usize, Fail> {
-    let Ok(Some(command)) = read(sheet, &mut Place { at }) else {
+    let mut reader = Reader {
+        sheet,
+        place: Place { at },
+    };
+    let Ok(Some(command)) = reader.read() else {
         return Err(Fail::new("no command"));
     };
-    match write(&command, copy, at) {
-        Ok(behind) => Ok(behind),
-        Err(_) => Err(Fail::new("refused")),
-    }
+    write(&command, copy, at).map_err(|_| Fail::new("refused"))
 }
 
 #[test]

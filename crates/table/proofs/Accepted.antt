@@ -1,6 +1,6 @@
 -- What an accepted call has shown, and that it keeps the table sound.
-use Rattle.std.proofs.Common.{◌≡◌, ℕ, ◌+◌, ◌-◌, ◌<◌, ◌≤◌, true, false, eqb, ltb, List, length, get_or, set, replicate, Some, None, Ok, Err, sum, Option, Result, sym, refl, ap, ◌∙◌, subst, ⊎_elim, arith, length-append, length-set}
-use Rattle.std.proofs.lemmas.List.{get_or-set_same, get_or-set_other, take_at}
+use Rattle.std.proofs.Common.{◌≡◌, ℕ, ◌+◌, ◌-◌, ◌<◌, ◌≤◌, true, false, eqb, ltb, List, length, get_or, set, Some, None, is_some, Ok, Err, sum, Option, Result, sym, refl, ap, ◌∙◌, subst, ⊎_elim, arith, length-set}
+use Rattle.std.proofs.lemmas.List.{get_or-set_same, get_or-set_other}
 use Rattle.std.proofs.lemmas.List.Sums.{sum_by-set}
 use Rattle.std.proofs.lemmas.Bool.{cases_eq, true≢false, false≢true, leb-false, ltb-false, eqb-true, eqb-false, or_parts, and_parts, and_cases, not-false, both_ways}
 use Rattle.refusals.specs.declared.Cause.{Cause}
@@ -10,22 +10,23 @@ use Rattle.refusals.proofs.Causes.{NoneHolds, none_holds}
 use Rattle.commands.specs.Calls.{Call, Open, Buy, Cash, Fill, Draw, Bet, Deal, Raise, Leave, Settle, Void}
 use Rattle.game.specs.declared.choice.Choice.{Choice}
 use Rattle.game.specs.declared.choice.Choice.TheVariants.{Open as open_choice, Raised, Left}
-use Rattle.game.specs.declared.dealing.Dealing.{Dealing}
-use Rattle.game.specs.declared.dealing.Dealing.TheVariants.{Lawful, NoCard, WrongCount}
+use Rattle.game.specs.declared.dealing.Misdeal.{Misdeal}
+use Rattle.game.specs.declared.dealing.Misdeal.TheVariants.{NoCard, WrongCount}
 use Rattle.game.specs.Rules.{Rules, Facts, Small, Fair, added, deal}
 use Rattle.books.specs.declared.seat.Seat.{Seat}
 use Rattle.books.specs.declared.stage.Stage.{Stage}
 use Rattle.books.specs.declared.stage.Stage.TheVariants.{Betting, Dealt}
 use Rattle.books.specs.declared.table_books.Books.{Books}
-use Rattle.books.specs.Books.{nobody, seat_at, deal_of, round_of, with_seat, with_tray, with_rack, with_stage}
+use Rattle.books.specs.Books.{nobody, seat_at, with_seat, with_tray, with_rack, with_stage}
 use Rattle.table.specs.Causes.{with_bet, causes, refusal, judged, verdict, is_strange, is_miscounted}
-use Rattle.table.specs.Effects.{with_raise, with_leave, settled_in, voided, after}
+use Rattle.table.specs.Effects.{with_raise, with_leave, settled_in, after}
 use Rattle.table.specs.Calls.{Did}
 use Rattle.table.specs.Holdings.{limit, most_rounds, total, ceilings, staking, is_open, due, missing, is_betting, bad_seat, bad_space}
 use Rattle.table.specs.Soundness.{Chosen, SeatSound, StageSound, Sound}
-use Rattle.table.proofs.Ended.{settled_is, voided_is}
-use Rattle.table.proofs.Keep.{each_set, may_all, settle_all, void_all}
+use Rattle.table.proofs.Ended.{settled_is}
+use Rattle.table.proofs.Keep.{each_set, may_all, settle_all}
 use Rattle.table.proofs.Totals.{total_set, ceilings_set}
+use Rattle.table.proofs.Voiding.{voided_sound}
 
 -- where a call is accepted, none of its causes holds
 ok_none : (o : Option Cause) (f : Cause → Refusal) → Ok tt ≡ judged o f → o ≡ None
@@ -58,10 +59,14 @@ open_is open_choice e = refl
 open_is Raised e = absurd (false≢true e)
 open_is Left e = absurd (false≢true e)
 
-lawful_is : (v : Dealing) → is_strange v ≡ false → is_miscounted v ≡ false → v ≡ Lawful
-lawful_is Lawful p q = refl
-lawful_is NoCard p q = absurd (true≢false p)
-lawful_is WrongCount p q = absurd (true≢false q)
+lawful_is : (v : Result (Unit {0}) Misdeal) → is_strange v ≡ false → is_miscounted v ≡ false → v ≡ Ok tt
+lawful_is (Ok lawful) p q = refl
+lawful_is (Err NoCard) p q = absurd (true≢false p)
+lawful_is (Err WrongCount) p q = absurd (true≢false q)
+
+pub none_missing : (o : Option ℕ) → is_some o ≡ false → o ≡ None
+none_missing None e = refl
+none_missing (Some k) e = absurd (true≢false e)
 
 -- stakes with one space written stay small
 small_set : (xs : List ℕ) (j n : ℕ) → Small xs → j < 5 → n ≤ 1000000 → Small (set xs j n)
@@ -134,13 +139,9 @@ module _ (R : Rules) (facts : Facts R) where
   pub leave_shown : (b : Books) (s free : ℕ) → Sound R b → NoneHolds (causes R b (Leave s) free) → ChoiceShown b s × (R.leaves (seat_at b (s - 1)).stakes ≡ true)
   leave_shown b s free sound p = (choice_shown b s sound p.0 p.1.0 (not-false _ p.1.1.0), not-false _ p.1.1.1.0)
 
-  pub total_after_settle : (b : Books) → Sound R b → missing R b ≡ 0 → (g : Stage) → b.stage ≡ g → total (settled_in R b g) ≡ total b
+  pub total_after_settle : (b : Books) → Sound R b → missing R b ≡ None → (g : Stage) → b.stage ≡ g → total (settled_in R b g) ≡ total b
   total_after_settle b s m Betting e = refl
   total_after_settle b s m (Dealt r) e = ap total (sym (settled_is R facts b r s e (may_all R b s m))) ∙ (settle_all R facts b r s e (may_all R b s m) 7 (omega arith)).same_total
-
-  pub total_after_void : (b : Books) → Sound R b → (g : Stage) → b.stage ≡ g → is_betting g ≡ false → total (voided b) ≡ total b
-  total_after_void b s Betting e h = absurd (true≢false h)
-  total_after_void b s (Dealt r) e h = ap total (sym (voided_is R facts b r s e)) ∙ (void_all R facts b r s e 7 (omega arith)).same_total
 
   -- one seat is written, and the stage still stands
   sound_seat : (b : Books) (k : ℕ) (v : Seat) → Sound R b → SeatSound R v → total (with_seat b k v) ≤ limit → ceilings R (set b.seats k v) ≤ b.tray → StageSound R (with_seat b k v) b.stage → Sound R (with_seat b k v)
@@ -176,18 +177,12 @@ module _ (R : Rules) (facts : Facts R) where
   sound_again : (b : Books) → Sound R b → ((k : ℕ) → k < 7 → (seat_at b k).choice ≡ open_choice) → Sound R (with_stage b Betting)
   sound_again b s e = record { seven = s.seven; seats = s.seats; within = s.within; covered = s.covered; counted = s.counted; least = s.least; bounds = s.bounds; most = s.most; stands = e }
 
-  sound_settled : (b : Books) → Sound R b → missing R b ≡ 0 → (g : Stage) → b.stage ≡ g → Sound R (settled_in R b g)
+  sound_settled : (b : Books) → Sound R b → missing R b ≡ None → (g : Stage) → b.stage ≡ g → Sound R (settled_in R b g)
   sound_settled b s m Betting e = s
   sound_settled b s m (Dealt r) e =
       let may = may_all R b s m in
       let p = settle_all R facts b r s e may 7 (omega arith) in
       subst (Sound R) (settled_is R facts b r s e may) (sound_again _ p.sound (λ k lt. ap (λ x. x.choice) (p.done k lt)))
-
-  sound_voided : (b : Books) → Sound R b → (g : Stage) → b.stage ≡ g → is_betting g ≡ false → Sound R (voided b)
-  sound_voided b s Betting e h = absurd (true≢false h)
-  sound_voided b s (Dealt r) e h =
-      let p = void_all R facts b r s e 7 (omega arith) in
-      subst (Sound R) (voided_is R facts b r s e) (sound_again _ p.sound (λ k lt. ap (λ x. x.choice) (p.done k lt)))
 
   -- a seat with another rack
   rack_sound : (v : Seat) (n : ℕ) → SeatSound R v → SeatSound R (with_rack v n)
@@ -248,9 +243,6 @@ module _ (R : Rules) (facts : Facts R) where
   sound_after b (Deal cards) free s p =
       let d = deal (staking b) cards in
       let fair : Fair R d = record { seven = refl; lawful = lawful_is (R.deals d) p.1.1.1.0 p.1.1.1.1.0 } in
-      let few : length cards ≤ 40 = facts.cards d fair in
-      let r = round_of (staking b) cards in
-      let back : deal_of r ≡ d = ap (deal (staking b)) (take_at cards (replicate (40 - length cards) 0) (length cards) refl) in
       record {
         seven = s.seven;
         seats = s.seats;
@@ -260,7 +252,7 @@ module _ (R : Rules) (facts : Facts R) where
         least = s.least;
         bounds = s.bounds;
         most = s.most;
-        stands = (subst (Fair R) (sym back) fair, omega (arith, length-append cards (replicate (40 - length cards) 0)));
+        stands = fair;
       }
   sound_after b (Raise i) free s p =
       let o = raise_shown b i free s p in
@@ -278,8 +270,8 @@ module _ (R : Rules) (facts : Facts R) where
       (omega (arith, total_set b (i - 1) v s.seven o.0.seat, s.within))
       (omega (arith, ceilings_set R b (i - 1) v s.seven o.0.seat, s.covered))
       (stands_dealt b (with_seat b (i - 1) v) b.stage o.0.stage s.stands)
-  sound_after b Settle free s p = sound_settled b s (eqb-true _ _ (not-false _ p.1.0)) b.stage refl
-  sound_after b Void free s p = sound_voided b s b.stage refl p.0
+  sound_after b Settle free s p = sound_settled b s (none_missing _ p.1.0) b.stage refl
+  sound_after b Void free s p = voided_sound R facts b s
 
   pub did_sound : (b b' : Books) (c : Call) (free : ℕ) (r : Result (Unit {0}) Refusal) → Sound R b → Did R b c free r b' → Sound R b'
   did_sound b b' c free (Ok x) s d = subst (Sound R) (sym d.books) (sound_after b c free s (passed R b c free d.answer))

@@ -1,20 +1,22 @@
--- Sound books stay sound while a round is ended seat by seat, and what that makes of them.
-use Rattle.std.proofs.Common.{◌≡◌, ℕ, zero, suc, ◌+◌, ◌-◌, ◌<◌, ◌≤◌, Bool, true, false, cond, ◌&&◌, List, [], ◌∷◌, length, get_or, set, replicate, sum, sym, refl, ap, ◌∙◌, subst, ⊎_elim, arith, length-set}
+-- Sound books stay sound while a round is settled seat by seat, and what that makes of them.
+use Rattle.std.proofs.Common.{◌≡◌, ℕ, zero, suc, ◌+◌, ◌-◌, ◌<◌, ◌≤◌, Bool, true, false, cond, ◌&&◌, List, [], ◌∷◌, Some, None, length, get_or, set, replicate, sum, sym, refl, ap, ◌∙◌, subst, ⊎_elim, arith, length-set}
 use Rattle.std.proofs.lemmas.List.{get_or-set_same, get_or-set_other}
 use Rattle.std.proofs.lemmas.List.Sums.{sum_by-set, sum_by-cons, get_or-le-sum_by}
 use Rattle.std.proofs.lemmas.Bool.{cases_eq, ltb-false}
+use Rattle.std.proofs.lemmas.Option.{none-some}
 use Rattle.game.specs.declared.choice.Choice.{Choice}
 use Rattle.game.specs.declared.choice.Choice.TheVariants.{Open, Raised, Left}
 use Rattle.game.specs.Rules.{Rules, Facts, Small, Allowed, Fair, added}
 use Rattle.books.specs.declared.seat.Seat.{Seat}
 use Rattle.books.specs.declared.stage.Round.{Round}
-use Rattle.books.specs.declared.stage.Stage.TheVariants.{Dealt}
+use Rattle.books.specs.declared.stage.Stage.{Stage}
+use Rattle.books.specs.declared.stage.Stage.TheVariants.{Betting, Dealt}
 use Rattle.books.specs.declared.table_books.Books.{Books}
-use Rattle.books.specs.Books.{empty, nobody, seat_at, laid, chips, cleared, unchosen, with_tray, with_seat, deal_of}
+use Rattle.books.specs.Books.{empty, nobody, seat_at, laid, chips, cleared, unchosen, with_tray, with_seat}
 use Rattle.table.specs.Effects.{return_to}
 use Rattle.table.specs.Holdings.{limit, total, every, does_stake, is_open, due, first_seat, missing}
 use Rattle.table.specs.Soundness.{Chosen, SeatSound, StageSound, Sound}
-use Rattle.table.specs.Steps.{settle_seat, settle_to, void_seat, void_to, May}
+use Rattle.table.specs.Steps.{settle_seat, settle_to, May}
 use Rattle.table.proofs.Seats.{seven}
 use Rattle.table.proofs.Totals.{ceil, ceilings_set, ceil_within}
 
@@ -54,14 +56,14 @@ pub cleared_sound : (R : Rules) (s : Seat) (n : ℕ) → SeatSound R (cleared s 
 cleared_sound R s n = record { small = empty_small; raise = refl; chosen = tt }
 
 -- where the first seat that a test picks is none, it picks no seat
-none_picked : (p : ℕ → Bool) (ks : List ℕ) → first_seat p ks ≡ 0 → (i : ℕ) → i < length ks → p (get_or ks i 0) ≡ false
+none_picked : (p : ℕ → Bool) (ks : List ℕ) → first_seat p ks ≡ None → (i : ℕ) → i < length ks → p (get_or ks i 0) ≡ false
 none_picked p [] e i lt = absurd (omega arith)
 none_picked p (k ∷ ks) e i lt = go (λ h j below. none_picked p ks h j below) (p k) refl i lt
   where
-    go : (first_seat p ks ≡ 0 → (j : ℕ) → j < length ks → p (get_or ks j 0) ≡ false) → (t : Bool) → p k ≡ t → (i : ℕ) → i < length (k ∷ ks) → p (get_or (k ∷ ks) i 0) ≡ false
-    go rest true h i lt = let z : k + 1 ≡ 0 = sym (ap (λ t. cond t (k + 1) (first_seat p ks)) h) ∙ e in absurd (omega arith)
+    go : (first_seat p ks ≡ None → (j : ℕ) → j < length ks → p (get_or ks j 0) ≡ false) → (t : Bool) → p k ≡ t → (i : ℕ) → i < length (k ∷ ks) → p (get_or (k ∷ ks) i 0) ≡ false
+    go rest true h i lt = absurd (none-some (k + 1) (sym (sym (ap (λ t. cond t (Some (k + 1)) (first_seat p ks)) h) ∙ e)))
     go rest false h zero lt = h
-    go rest false h (suc i) lt = rest (sym (ap (λ t. cond t (k + 1) (first_seat p ks)) h) ∙ e) i (omega arith)
+    go rest false h (suc i) lt = rest (sym (ap (λ t. cond t (Some (k + 1)) (first_seat p ks)) h) ∙ e) i (omega arith)
 
 module _ (R : Rules) where
   may_seat : (s : Seat) (c : Choice) → (is_open c && R.chooses s.stakes) ≡ false → Chosen R s c → Allowed R s.stakes c
@@ -70,13 +72,13 @@ module _ (R : Rules) where
   may_seat s Left e h = h
 
   -- where no choice is missing, each seat's choice is one that the game allows
-  pub may_all : (b : Books) → Sound R b → missing R b ≡ 0 → (k : ℕ) → k < 7 → May R (seat_at b k)
+  pub may_all : (b : Books) → Sound R b → missing R b ≡ None → (k : ℕ) → k < 7 → May R (seat_at b k)
   may_all b s e k lt =
       let p : ℕ → Bool = λ j. due R (seat_at b j) in
       let none : p k ≡ false = seven (λ j. p j ≡ false) (none_picked p every e 0 (omega arith), none_picked p every e 1 (omega arith), none_picked p every e 2 (omega arith), none_picked p every e 3 (omega arith), none_picked p every e 4 (omega arith), none_picked p every e 5 (omega arith), none_picked p every e 6 (omega arith)) k lt in
       may_seat (seat_at b k) (seat_at b k).choice none (s.seats k lt).chosen
 
-  pub dealt_sound : (b : Books) (r : Round) → Sound R b → b.stage ≡ Dealt r → Fair R (deal_of r) × (r.count ≤ length r.bytes)
+  pub dealt_sound : (b : Books) (r : Round) → Sound R b → b.stage ≡ Dealt r → Fair R r
   dealt_sound b r s e = subst (StageSound R b) e s.stands
 
   module _ (facts : Facts R) where
@@ -99,22 +101,27 @@ module _ (R : Rules) where
 
     module _ (b : Books) (r : Round) (k : ℕ) (s : Sound R b) (dealt : b.stage ≡ Dealt r) (lt : k < 7) where
       -- a return is covered by what the seat laid and its ceiling
-      pub return_covered : May R (seat_at b k) → return_to R (deal_of r) k (seat_at b k) ≤ laid (seat_at b k) + ceil R (seat_at b k)
+      pub return_covered : May R (seat_at b k) → return_to R r k (seat_at b k) ≤ laid (seat_at b k) + ceil R (seat_at b k)
       return_covered may =
           let v = seat_at b k in
           let h = s.seats k lt in
-          omega (arith, facts.pays k v.stakes v.choice (deal_of r) h.small may (dealt_sound b r s dealt).0, h.raise)
+          omega (arith, facts.pays k v.stakes v.choice r h.small may (dealt_sound b r s dealt), h.raise)
 
       -- a seat without stakes gets nothing back
-      pub idle_nothing : does_stake (seat_at b k) ≡ false → return_to R (deal_of r) k (seat_at b k) ≡ 0
+      pub idle_nothing : does_stake (seat_at b k) ≡ false → return_to R r k (seat_at b k) ≡ 0
       idle_nothing idle =
           let v = seat_at b k in
-          facts.idle_return k v.stakes v.choice (deal_of r) (s.seats k lt).small (omega (arith, ltb-false 0 (sum v.stakes) idle)) (dealt_sound b r s dealt).0
+          facts.idle_return k v.stakes v.choice r (s.seats k lt).small (omega (arith, ltb-false 0 (sum v.stakes) idle)) (dealt_sound b r s dealt)
+
+    -- clearing a seat ends its choice, so the stage still stands
+    stands_cleared : (b : Books) (k n tray : ℕ) → length b.seats ≡ 7 → (g : Stage) → StageSound R b g → StageSound R (with_tray (with_seat b k (cleared (seat_at b k) n)) tray) g
+    stands_cleared b k n tray e Betting a = each_set (λ x. x.choice ≡ Open) b.seats k (cleared (seat_at b k) n) nobody 7 e refl a
+    stands_cleared b k n tray e (Dealt r) a = a
 
     -- one seat of sound books is cleared, and the tray changes so that it still covers the ceilings and the total stays
     pub cleared_at_sound : (b : Books) (k n tray : ℕ) → Sound R b → k < 7 → let s = seat_at b k in let b' = with_tray (with_seat b k (cleared s n)) tray in
-        total b' ≡ total b → b.tray ≤ tray + ceil R s → StageSound R b' b.stage → Sound R b'
-    cleared_at_sound b k n tray s lt same tray_fits stands =
+        total b' ≡ total b → b.tray ≤ tray + ceil R s → Sound R b'
+    cleared_at_sound b k n tray s lt same tray_fits =
         let v = seat_at b k in
         record {
           seven = length-set b.seats k (cleared v n) ∙ s.seven;
@@ -125,7 +132,7 @@ module _ (R : Rules) where
           least = s.least;
           bounds = s.bounds;
           most = s.most;
-          stands = stands;
+          stands = stands_cleared b k n tray s.seven b.stage s.stands;
         }
 
     -- what ending a round has done to the first n seats, where each seat becomes what f makes of it
@@ -174,46 +181,24 @@ module _ (R : Rules) where
     module _ (b : Books) (r : Round) (s : Sound R b) (dealt : b.stage ≡ Dealt r) where
       -- what a settled seat becomes
       abbrev pub settled_seat : ℕ → Seat → Seat
-      settled_seat k v = cleared v (v.rack + return_to R (deal_of r) k v)
+      settled_seat k v = cleared v (v.rack + return_to R r k v)
 
-      abbrev pub voided_seat : ℕ → Seat → Seat
-      voided_seat k v = cleared v (v.rack + laid v)
-
-      pub settle_total : (k : ℕ) → k < 7 → May R (seat_at b k) → total (settle_seat R (deal_of r) b k) ≡ total b
+      pub settle_total : (k : ℕ) → k < 7 → May R (seat_at b k) → total (settle_seat R r b k) ≡ total b
       settle_total k lt may =
           let h : k < length b.seats = omega (arith, s.seven) in
           omega (arith, sum_by-set chips b.seats k (settled_seat k (seat_at b k)) nobody h, return_covered b r k s dealt lt may, ceil_within R b k s.seven lt, s.covered, get_or-le-sum_by chips b.seats k nobody h)
 
-      pub settle_sound : (k : ℕ) → k < 7 → May R (seat_at b k) → Sound R (settle_seat R (deal_of r) b k)
+      pub settle_sound : (k : ℕ) → k < 7 → May R (seat_at b k) → Sound R (settle_seat R r b k)
       settle_sound k lt may =
           let v = seat_at b k in
-          cleared_at_sound b k (v.rack + return_to R (deal_of r) k v) (b.tray + laid v - return_to R (deal_of r) k v) s lt (settle_total k lt may)
-          (omega (arith, return_covered b r k s dealt lt may)) (subst (StageSound R (settle_seat R (deal_of r) b k)) (sym dealt) (dealt_sound b r s dealt))
-
-      pub void_total : (k : ℕ) → k < 7 → total (void_seat b k) ≡ total b
-      void_total k lt =
-          let h : k < length b.seats = omega (arith, s.seven) in
-          omega (arith, sum_by-set chips b.seats k (voided_seat k (seat_at b k)) nobody h)
-
-      pub void_sound : (k : ℕ) → k < 7 → Sound R (void_seat b k)
-      void_sound k lt =
-          let v = seat_at b k in
-          cleared_at_sound b k (v.rack + laid v) b.tray s lt (void_total k lt) (omega arith) (subst (StageSound R (void_seat b k)) (sym dealt) (dealt_sound b r s dealt))
+          cleared_at_sound b k (v.rack + return_to R r k v) (b.tray + laid v - return_to R r k v) s lt (settle_total k lt may) (omega (arith, return_covered b r k s dealt lt may))
 
     -- the first n seats settled
-    pub settle_all : (b : Books) (r : Round) (s : Sound R b) (dealt : b.stage ≡ Dealt r) → ((k : ℕ) → k < 7 → May R (seat_at b k)) → (n : ℕ) → n ≤ 7 → Ended r (settled_seat b r s dealt) b (settle_to R (deal_of r) n b) n
+    pub settle_all : (b : Books) (r : Round) (s : Sound R b) (dealt : b.stage ≡ Dealt r) → ((k : ℕ) → k < 7 → May R (seat_at b k)) → (n : ℕ) → n ≤ 7 → Ended r (settled_seat b r s dealt) b (settle_to R r n b) n
     settle_all b r s dealt may zero le = ended_none r (settled_seat b r s dealt) b s dealt
     settle_all b r s dealt may (suc n) le =
         let p = settle_all b r s dealt may n (omega arith) in
-        let m = settle_to R (deal_of r) n b in
+        let m = settle_to R r n b in
         let lt : n < 7 = omega arith in
         let may_n : May R (seat_at m n) = subst (May R) (sym (p.later n (omega arith))) (may n lt) in
         ended_more r (settled_seat b r s dealt) b m n _ lt p (settle_sound m r p.sound p.stage n lt may_n) (settle_total m r p.sound p.stage n lt may_n)
-
-    pub void_all : (b : Books) (r : Round) (s : Sound R b) (dealt : b.stage ≡ Dealt r) (n : ℕ) → n ≤ 7 → Ended r (voided_seat b r s dealt) b (void_to n b) n
-    void_all b r s dealt zero le = ended_none r (voided_seat b r s dealt) b s dealt
-    void_all b r s dealt (suc n) le =
-        let p = void_all b r s dealt n (omega arith) in
-        let m = void_to n b in
-        let lt : n < 7 = omega arith in
-        ended_more r (voided_seat b r s dealt) b m n _ lt p (void_sound m r p.sound p.stage n lt) (void_total m r p.sound p.stage n lt)

@@ -9,4 +9,3 @@ pub mod Accepted
 pub mod Trace
 pub mod Opened
 pub mod Performed
-pub mod Single

@@ -47,10 +47,10 @@ cause_judged : (f : Cause → Refusal) → ((x : Cause) → (f x).cause ≡ x) �
 cause_judged f names None = refl
 cause_judged f names (Some x) = ap Some (names x)
 
-module _ (R : Rules) (facts : Facts R) (b b' : Books) (l : Roll Entry) (c : Call) (r : Result (Unit {0}) Refusal) (s : Sound R b) where
+module _ {R : Rules} (facts : Facts R) {b b' : Books} (s : Sound R b) (l : Roll Entry) {c c' : Call} {r : Result (Unit {0}) Refusal} (e : c ≡ c') where
   -- a call that was done with this ledger
-  pub performed : (l' : Roll Entry) (c' : Call) → c ≡ c' → Did R b c' (free l) r b' → Written l l' (either r (writes R b c') []) → Performed R b l c r b' l'
-  performed l' c' e d w =
+  pub performed : (l' : Roll Entry) → Did R b c' (free l) r b' → Written l l' (either r (writes R b c') []) → Performed R b l c r b' l'
+  performed l' d w =
       let d' : Did R b c (free l) r b' = subst (λ x. Did R b x (free l) r b') (sym e) d in
       record {
         did = d';
@@ -64,28 +64,28 @@ module _ (R : Rules) (facts : Facts R) (b b' : Books) (l : Roll Entry) (c : Call
       told r a = ap cause_in a ∙ cause_judged (refusal R b c) (λ x. refl) (first_cause (causes R b c (free l)))
 
   -- a call that does not look at the ledger
-  pub performed_aside : (c' : Call) → c ≡ c' → verdict R b c' 0 ≡ verdict R b c' (free l) → writes R b c' ≡ [] → Did R b c' 0 r b' → Performed R b l c r b' l
-  performed_aside c' e v w d =
-      performed l c' e (record { answer = d.answer ∙ v; books = d.books }) (subst (λ es. Written l l (either r es [])) (sym w) (unwritten r l))
+  pub performed_aside : verdict R b c' 0 ≡ verdict R b c' (free l) → writes R b c' ≡ [] → Did R b c' 0 r b' → Performed R b l c r b' l
+  performed_aside v w d =
+      performed l (record { answer = d.answer ∙ v; books = d.books }) (subst (λ es. Written l l (either r es [])) (sym w) (unwritten r l))
 
 -- calls that do not belong to the stage
-module _ (R : Rules) (b : Books) (free : ℕ) (e : Refusal) where
-  pub open_again : (conditions : Conditions) (tray : ℕ) → e ≡ refused WrongStage 0 → Did R b (Open conditions tray) free (Err e) b
-  open_again conditions tray told = record { answer = ap Err told; books = refl }
+module _ {R : Rules} {b : Books} {free : ℕ} {e : Refusal} where
+  pub open_again : {conditions : Conditions} {tray : ℕ} → e ≡ refused WrongStage 0 → Did R b (Open conditions tray) free (Err e) b
+  open_again told = record { answer = ap Err told; books = refl }
 
-  module _ (r : Round) (dealt : b.stage ≡ Dealt r) where
-    pub late_bet : (s j n : ℕ) → e ≡ refused WrongStage s → Did R b (Bet s j n) free (Err e) b
-    late_bet s j n told = record { answer = ap Err told ∙ rw dealt refl; books = refl }
+  module _ {r : Round} (dealt : b.stage ≡ Dealt r) where
+    pub late_bet : {s j n : ℕ} → e ≡ refused WrongStage s → Did R b (Bet s j n) free (Err e) b
+    late_bet told = record { answer = ap Err told ∙ rw dealt refl; books = refl }
 
-    pub late_deal : (cards : List ℕ) → e ≡ refused WrongStage 0 → Did R b (Deal cards) free (Err e) b
-    late_deal cards told = record { answer = ap Err told ∙ rw dealt refl; books = refl }
+    pub late_deal : {cards : List ℕ} → e ≡ refused WrongStage 0 → Did R b (Deal cards) free (Err e) b
+    late_deal told = record { answer = ap Err told ∙ rw dealt refl; books = refl }
 
   module _ (betting : b.stage ≡ Betting) where
-    pub early_raise : (s : ℕ) → e ≡ refused WrongStage s → Did R b (Raise s) free (Err e) b
-    early_raise s told = record { answer = ap Err told ∙ rw betting refl; books = refl }
+    pub early_raise : {s : ℕ} → e ≡ refused WrongStage s → Did R b (Raise s) free (Err e) b
+    early_raise told = record { answer = ap Err told ∙ rw betting refl; books = refl }
 
-    pub early_leave : (s : ℕ) → e ≡ refused WrongStage s → Did R b (Leave s) free (Err e) b
-    early_leave s told = record { answer = ap Err told ∙ rw betting refl; books = refl }
+    pub early_leave : {s : ℕ} → e ≡ refused WrongStage s → Did R b (Leave s) free (Err e) b
+    early_leave told = record { answer = ap Err told ∙ rw betting refl; books = refl }
 
     pub early_settle : e ≡ refused WrongStage 0 → Did R b Settle free (Err e) b
     early_settle told = record { answer = ap Err told ∙ rw betting refl; books = refl }

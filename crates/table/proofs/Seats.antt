@@ -1,11 +1,7 @@
 -- The seven seats, and what a sound seat's raise may be.
-use Rattle.std.proofs.Common.{◌≡◌, ℕ, zero, suc, ◌^◌, ◌<◌, ◌≤◌, List, get_or, refl, arith}
-use Rattle.game.specs.declared.choice.Choice.{Choice}
-use Rattle.game.specs.declared.choice.Choice.TheVariants.{Open, Raised, Left}
-use Rattle.game.specs.Rules.{Rules, Facts, Small, added}
-use Rattle.books.specs.declared.seat.Seat.{Seat}
+use Rattle.std.proofs.Common.{◌≡◌, ℕ, zero, suc, ◌<◌, List, [], ◌∷◌, map, length, get_or, refl, ap, ◌∙◌, arith}
+use Rattle.std.specs.List.{AllByRecursion as All}
 use Rattle.table.specs.Holdings.{every}
-use Rattle.table.specs.Soundness.{SeatSound}
 
 -- what holds of the seven holds of each seat
 pub seven : (P : ℕ → Type 0) → P 0 × P 1 × P 2 × P 3 × P 4 × P 5 × P 6 → (k : ℕ) → k < 7 → P k
@@ -21,11 +17,22 @@ seven P a (suc (suc (suc (suc (suc (suc (suc k))))))) lt = absurd (omega arith)
 pub every_at : (k : ℕ) → k < 7 → get_or every k 0 ≡ k
 every_at k lt = seven (λ j. get_or every j 0 ≡ j) (refl, refl, refl, refl, refl, refl, refl) k lt
 
--- a choice adds no more than the largest raise
-pub added_small : (R : Rules) → Facts R → (stakes : List ℕ) (c : Choice) → Small stakes → added R stakes c ≤ 2000000
-added_small R facts stakes Open small = omega arith
-added_small R facts stakes Raised small = facts.raises stakes small
-added_small R facts stakes Left small = omega arith
+-- two functions that agree on a list
+map_agree : {X Y : Type 0} (f h : X → Y) (xs : List X) → All (λ x. f x ≡ h x) xs → map f xs ≡ map h xs
+map_agree f h [] a = refl
+map_agree f h (x ∷ xs) a = ap (λ y. y ∷ map f xs) a.0 ∙ ap (λ ys. h x ∷ ys) (map_agree f h xs a.1)
 
-pub raised_small : (R : Rules) → Facts R → (s : Seat) → SeatSound R s → s.raised < 2 ^ 40
-raised_small R facts s h = omega (arith, h.raise, added_small R facts s.stakes s.choice h.small)
+pub every_agree : {Y : Type 0} (f h : ℕ → Y) → ((k : ℕ) → k < 7 → f k ≡ h k) → map f every ≡ map h every
+every_agree f h e = map_agree f h every (e 0 (omega arith), (e 1 (omega arith), (e 2 (omega arith), (e 3 (omega arith), (e 4 (omega arith), (e 5 (omega arith), (e 6 (omega arith), tt)))))))
+
+-- a list of seven, by its places
+pub seven_places : {X : Type 0} (xs : List X) (d : X) → length xs ≡ 7 → xs ≡ map (λ k. get_or xs k d) every
+seven_places [] d e = absurd (omega arith)
+seven_places (a ∷ []) d e = absurd (omega arith)
+seven_places (a ∷ b ∷ []) d e = absurd (omega arith)
+seven_places (a ∷ b ∷ c ∷ []) d e = absurd (omega arith)
+seven_places (a ∷ b ∷ c ∷ x ∷ []) d e = absurd (omega arith)
+seven_places (a ∷ b ∷ c ∷ x ∷ y ∷ []) d e = absurd (omega arith)
+seven_places (a ∷ b ∷ c ∷ x ∷ y ∷ z ∷ []) d e = absurd (omega arith)
+seven_places (a ∷ b ∷ c ∷ x ∷ y ∷ z ∷ w ∷ []) d e = refl
+seven_places (a ∷ b ∷ c ∷ x ∷ y ∷ z ∷ w ∷ v ∷ us) d e = absurd (omega arith)

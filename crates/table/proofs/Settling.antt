@@ -1,31 +1,39 @@
 -- A round as it is settled seat by seat: the books, and the ledger.
-use Rattle.std.proofs.Common.{◌≡◌, ℕ, ◌+◌, ◌<◌, ◌≤◌, Bool, true, false, cond, eqb, ltb, List, [], ◌∷◌, ◌++◌, map, length, get_or, take, drop, Ok, Err, sum_by, filter, sym, refl, ap, ◌∙◌, subst, add-one, arith, length-append, length-take}
+use Rattle.std.proofs.Common.{◌≡◌, ℕ, ◌+◌, ◌<◌, ◌≤◌, Bool, true, false, cond, ltb, List, [], ◌∷◌, ◌++◌, map, length, get_or, take, drop, Ok, Some, None, is_some, unwrap_or, Option, sum_by, filter, sym, refl, ap, ◌∙◌, subst, add-one, arith, length-append}
+use Rattle.std.proofs.lemmas.List.{map-append}
 use Rattle.std.proofs.lemmas.List.Elements.{filter_more}
 use Rattle.std.proofs.lemmas.List.Sums.{sum_by-drop_more}
-use Rattle.std.proofs.lemmas.Bool.{le-ltb, eq-eqb, ne_eqb}
-use Rattle.refusals.specs.declared.Cause.TheVariants.{ChoiceMissing}
-use Rattle.refusals.specs.declared.Refusal.{Refusal}
-use Rattle.refusals.specs.Refusals.{refused}
+use Rattle.std.proofs.lemmas.Bool.{le-ltb}
+use Rattle.std.proofs.lemmas.Option.{none-some}
+use Rattle.refusals.specs.declared.Cause.TheVariants.{WrongStage, ChoiceMissing, NoPlaceFree}
+use Rattle.refusals.specs.Refusals.{first_cause}
 use Rattle.commands.specs.Calls.{Settle}
 use Rattle.game.specs.Rules as game
 use Rattle.game.specs.Rules.{Rules, Facts}
 use Rattle.ledger.specs.declared.entries.Entry.{Entry}
 use Rattle.ledger.specs.declared.rolls.Roll.{Roll}
 use Rattle.ledger.specs.Rolls.{kept, places, free, Written}
-use Rattle.ledger.proofs.Writing.{written_none, written_then}
+use Rattle.ledger.proofs.Writing.{written_then}
 use Rattle.books.specs.declared.stage.Round.{Round}
+use Rattle.books.specs.declared.stage.Stage.{Stage}
 use Rattle.books.specs.declared.stage.Stage.TheVariants.{Betting, Dealt}
 use Rattle.books.specs.declared.table_books.Books.{Books}
-use Rattle.books.specs.Books.{seat_at, deal_of, with_stage}
+use Rattle.books.specs.Books.{seat_at, deal_on, with_stage}
 use Rattle.table.specs.Calls.{Did}
+use Rattle.table.specs.Causes.{refusal, judged}
 use Rattle.table.specs.Effects.{settled_in}
 use Rattle.table.specs.Entries.{entry_of, entries_of, entries_in}
-use Rattle.table.specs.Holdings.{every, one_if, does_stake, stakers, missing}
+use Rattle.table.specs.Holdings.{every, one_if, does_stake, stakers, missing, is_betting}
 use Rattle.table.specs.Soundness.{Sound}
 use Rattle.table.specs.Steps.{settle_seat, settle_to, entry_at, May}
 use Rattle.table.proofs.Ended.{settled_is}
 use Rattle.table.proofs.Keep.{settle_all, may_all}
 use Rattle.table.proofs.Seats.{every_at}
+
+-- a stage with a deal on the table is dealt
+pub dealt_stage : (g : Stage) (d : game.Deal) → Some d ≡ deal_on g → g ≡ Dealt d
+dealt_stage Betting d e = absurd (none-some d (sym e))
+dealt_stage (Dealt r) d e = ap Dealt (sym (ap (λ o. unwrap_or o d) e))
 
 -- how many of some seats stake
 abbrev pub stakers_in : Books → List ℕ → ℕ
@@ -37,13 +45,6 @@ pub record Settling (R : Rules) (d : game.Deal) (b : Books) (l : Roll Entry) (k 
   pub wrote : Written l l' (entries_of R b d (take k every))
   pub room : length (kept l') + stakers_in b (drop k every) ≤ places l
 
--- a roll keeps no more than it has places for
-kept_within : (l : Roll Entry) → length (kept l) ≤ places l
-kept_within l = simp length-take (omega arith)
-
-pub starts : (R : Rules) (d : game.Deal) (b : Books) (l : Roll Entry) → stakers b ≤ free l → Settling R d b l 0 b l
-starts R d b l h = record { books = refl; wrote = written_none l; room = omega (arith, kept_within l) }
-
 -- a test on one more element, and what is made of it
 map_if : {X Y : Type 0} (f : X → Y) (t : Bool) (x : X) → map f (cond t (x ∷ []) []) ≡ cond t (f x ∷ []) []
 map_if f true x = refl
@@ -53,25 +54,20 @@ length_if : {X : Type 0} (t : Bool) (x : X) → length (cond t (x ∷ []) []) �
 length_if true x = refl
 length_if false x = refl
 
-map_append : {X Y : Type 0} (f : X → Y) (xs ys : List X) → map f (xs ++ ys) ≡ map f xs ++ map f ys
-map_append f [] ys = refl
-map_append f (x ∷ xs) ys = ap (λ zs. f x ∷ zs) (map_append f xs ys)
-
 -- the entries of one more seat
 entries_more : (R : Rules) (b : Books) (d : game.Deal) (k : ℕ) → k < 7 → entries_of R b d (take (k + 1) every) ≡ entries_of R b d (take k every) ++ entry_at R b.rounds d k (seat_at b k)
 entries_more R b d k lt =
     let p : ℕ → Bool = λ j. does_stake (seat_at b j) in
     let f : ℕ → Entry = λ j. entry_of R b.rounds d j (seat_at b j) in
     ap (map f) (filter_more p every k 0 lt)
-    ∙ map_append f (filter p (take k every)) (cond (p (get_or every k 0)) (get_or every k 0 ∷ []) [])
+    ∙ map-append f (filter p (take k every)) (cond (p (get_or every k 0)) (get_or every k 0 ∷ []) [])
     ∙ ap (λ ys. map f (filter p (take k every)) ++ ys) (map_if f (p (get_or every k 0)) (get_or every k 0) ∙ ap (λ j. cond (p j) (f j ∷ []) []) (every_at k lt))
 
-module _ {G : Type 0} (rules : G → Rules) (facts : (g : G) → Facts (rules g)) (g : G) (r : Round) (b : Books) (l : Roll Entry) (s : Sound (rules g) b) (dealt : b.stage ≡ Dealt r) (none : missing (rules g) b ≡ 0) where
+module _ {G : Type 0} (rules : G → Rules) (facts : (g : G) → Facts (rules g)) (g : G) (r : Round) (b : Books) (l : Roll Entry) (s : Sound (rules g) b) (dealt : b.stage ≡ Dealt r) (none : missing (rules g) b ≡ None) where
   -- what settling the seat k asks
-  pub asks : (g' : G) (k : ℕ) (b' : Books) (l' : Roll Entry) → k < 7 → g' ≡ g → Settling (rules g) (deal_of r) b l k b' l'
+  pub asks : (g' : G) (k : ℕ) (b' : Books) (l' : Roll Entry) → k < 7 → g' ≡ g → Settling (rules g) r b l k b' l'
       → record {
         seat : k < 7;
-        sound : Sound (rules g') b';
         dealt : b'.stage ≡ Dealt r;
         may : May (rules g') (seat_at b' k);
         room : one_if (does_stake (seat_at b' k)) ≤ free l';
@@ -85,19 +81,18 @@ module _ {G : Type 0} (rules : G → Rules) (facts : (g : G) → Facts (rules g)
       let more : stakers_in b (drop k every) ≡ f k + stakers_in b (drop (k + 1) every) = sum_by-drop_more f every k 0 lt ∙ ap (λ j. f j + stakers_in b (drop (k + 1) every)) (every_at k lt) in
       record {
         seat = lt;
-        sound = subst (λ x. Sound (rules x) b') (sym same) (subst (Sound R) (sym h.books) p.sound);
         dealt = ap (λ x. x.stage) h.books ∙ p.stage;
         may = subst (λ x. May (rules x) (seat_at b' k)) (sym same) (subst (May R) (sym at_k) (may k lt));
         room = omega (arith, more, h.room, h.wrote.as_many, ap (λ x. one_if (does_stake x)) at_k);
       }
 
   -- the seat k is settled
-  pub goes_on : (g' : G) (k : ℕ) (b' b'' : Books) (l' l'' : Roll Entry) → k < 7 → g' ≡ g → Settling (rules g) (deal_of r) b l k b' l'
-      → b'' ≡ settle_seat (rules g') (deal_of r) b' k → Written l' l'' (entry_at (rules g') b'.rounds (deal_of r) k (seat_at b' k))
-      → Settling (rules g) (deal_of r) b l (k + 1) b'' l''
+  pub goes_on : (g' : G) (k : ℕ) (b' b'' : Books) (l' l'' : Roll Entry) → k < 7 → g' ≡ g → Settling (rules g) r b l k b' l'
+      → b'' ≡ settle_seat (rules g') r b' k → Written l' l'' (entry_at (rules g') b'.rounds r k (seat_at b' k))
+      → Settling (rules g) r b l (k + 1) b'' l''
   goes_on g' k b' b'' l' l'' lt same h did wrote =
       let R = rules g in
-      let d = deal_of r in
+      let d = r in
       let p = settle_all R (facts g) b r s dealt (may_all R b s none) k (omega arith) in
       let at_k : seat_at b' k ≡ seat_at b k = ap (λ x. seat_at x k) h.books ∙ p.later k (omega arith) in
       let rounds : b'.rounds ≡ b.rounds = ap (λ x. x.rounds) h.books ∙ p.same_rounds in
@@ -116,22 +111,18 @@ module _ {G : Type 0} (rules : G → Rules) (facts : (g : G) → Facts (rules g)
       }
 
   -- all seats are settled
-  pub ends : (k : ℕ) (b' : Books) (l' : Roll Entry) (n : ℕ) → stakers b ≤ n → k ≡ 7 → Settling (rules g) (deal_of r) b l k b' l'
+  pub ends : (k : ℕ) (b' : Books) (l' : Roll Entry) (n : ℕ) → stakers b ≤ n → k ≡ 7 → Settling (rules g) r b l k b' l'
       → Did (rules g) b Settle n (Ok tt) (with_stage b' Betting) × Written l l' (entries_in (rules g) b b.stage)
   ends k b' l' n few is_7 h =
       let R = rules g in
-      let d = deal_of r in
-      let enough : ltb n (stakers b) ≡ false = le-ltb n (stakers b) few in
-      let chosen : eqb (missing R b) 0 ≡ true = eq-eqb (missing R b) 0 none in (
+      let d = r in
+      let enough : ltb n (stakers b) ≡ false = le-ltb n (stakers b) few in (
         record {
-          answer = rw (dealt, chosen, enough) refl;
+          answer = ap (λ o. judged o (refusal R b Settle)) (sym (clear (is_betting b.stage) (missing R b) (ltb n (stakers b)) (ap is_betting dealt) none enough));
           books = ap (λ x. with_stage x Betting) h.books ∙ ap (λ j. with_stage (settle_to R d j b) Betting) is_7 ∙ settled_is R (facts g) b r s dealt (may_all R b s none) ∙ ap (settled_in R b) (sym dealt);
         },
         subst (Written l l') (ap (λ j. entries_of R b d (take j every)) is_7 ∙ ap (entries_in R b) (sym dealt)) h.wrote,
       )
-
--- a choice is missing: the refusal names the lowest seat
-pub missed : (R : Rules) (b : Books) (n : ℕ) (r : Round) → b.stage ≡ Dealt r → (m : ℕ) → m ≡ missing R b → (m ≡ 0 → ⊥) → (e : Refusal) → e ≡ refused ChoiceMissing m → Did R b Settle n (Err e) b
-missed R b n r dealt m is some e told =
-    let t : eqb (missing R b) 0 ≡ false = ne_eqb (missing R b) 0 (λ z. some (is ∙ z)) in
-    record { answer = ap Err (told ∙ ap (refused ChoiceMissing) is) ∙ rw (dealt, t) refl; books = refl }
+    where
+      clear : (t : Bool) (o : Option ℕ) (f : Bool) → t ≡ false → o ≡ None → f ≡ false → first_cause ((t, WrongStage) ∷ (is_some o, ChoiceMissing) ∷ (f, NoPlaceFree) ∷ []) ≡ None
+      clear t o f p q r = rw (p, q, r) refl

@@ -1,9 +1,9 @@
 -- What the tally says of any run: one more call keeps it.
-use Rattle.std.proofs.Common.{◌≡◌, ℕ, ◌+◌, ◌-◌, ◌<◌, ◌≤◌, Bool, true, false, cond, not, ◌&&◌, eqb, ltb, leb, List, [], ◌∷◌, ◌++◌, map, length, get_or, take, set, replicate, is_ok, Some, None, Ok, Err, sum, Option, Result, sym, refl, ap, ◌∙◌, subst, ⊎_elim, arith}
+use Rattle.std.proofs.Common.{◌≡◌, ℕ, ◌+◌, ◌-◌, ◌<◌, ◌≤◌, Bool, true, false, cond, not, ◌&&◌, ltb, leb, List, [], ◌∷◌, ◌++◌, map, length, get_or, take, set, is_ok, is_some, Some, None, Ok, Err, sum, Option, Result, sym, refl, ap, ◌∙◌, subst, ⊎_elim, arith}
 use Rattle.std.proofs.lemmas.List.{get_or-set_same, get_or-set_other, take-append-le, take_at, get_or_append_left, get_or_at, length-append}
 use Rattle.std.proofs.lemmas.Int.{ints}
 use Rattle.std.proofs.lemmas.List.Sums.{sum_by_push, fold_push}
-use Rattle.std.proofs.lemmas.Bool.{cases_eq, cases_lt, true≢false, ltb-false, eq-eqb, ne_eqb, eqb-true, and_parts, not-false}
+use Rattle.std.proofs.lemmas.Bool.{cases_eq, cases_lt, true≢false, ltb-false, eq-eqb, ne_eqb, and_parts}
 use Rattle.std.proofs.lemmas.Bool.Decides.{nat_tests}
 use Rattle.refusals.specs.declared.Cause.TheVariants.{WrongStage, ChoiceMissing, NoPlaceFree}
 use Rattle.refusals.specs.declared.Refusal.{Refusal}
@@ -19,18 +19,20 @@ use Rattle.books.specs.declared.stage.Round.{Round}
 use Rattle.books.specs.declared.stage.Stage.{Stage}
 use Rattle.books.specs.declared.stage.Stage.TheVariants.{Betting, Dealt}
 use Rattle.books.specs.declared.table_books.Books.{Books}
-use Rattle.books.specs.Books.{nobody, seat_at, deal_of, with_rack}
+use Rattle.books.specs.Books.{nobody, seat_at, deal_on, with_rack}
 use Rattle.table.specs.Calls.{Did, either}
 use Rattle.table.specs.Causes.{with_bet, causes, refusal, judged, verdict}
 use Rattle.table.specs.Effects.{with_raise, with_leave, settled_in, voided, after, return_to}
-use Rattle.table.specs.Holdings.{total, ceilings, every, staking, does_stake, stakers, one_if, is_open, due, first_seat, missing, is_betting}
-use Rattle.table.specs.Promise.{Agree, Tallied, deal_on, Settles, one_more, Reached}
+use Rattle.table.specs.Holdings.{total, ceilings, every, does_stake, stakers, one_if, is_open, due, first_seat, missing, is_betting}
+use Rattle.table.specs.Promise.{Agree, Tallied, Settles, one_more, Reached}
 use Rattle.table.specs.Soundness.{Sound}
 use Rattle.table.specs.Tally.{Turn, turn, Slip, Tally, start, at, cleared_slip, seats, is_staked, settled_by, counted, noted, tally, brings, takes_away, brought, taken, is_unmade, is_awaited, is_dealt, none_of, entries}
-use Rattle.table.proofs.Accepted.{passed, seat_here, bet_shown, raise_shown, leave_shown, total_after_settle, total_after_void}
-use Rattle.table.proofs.Ended.{every_agree, settled_is, voided_is}
-use Rattle.table.proofs.Keep.{may_all, settle_all, void_all}
+use Rattle.table.proofs.Accepted.{passed, seat_here, bet_shown, raise_shown, leave_shown, none_missing, total_after_settle}
+use Rattle.table.proofs.Ended.{settled_is}
+use Rattle.table.proofs.Keep.{may_all, settle_all}
+use Rattle.table.proofs.Seats.{every_agree}
 use Rattle.table.proofs.Totals.{total_set}
+use Rattle.table.proofs.Voiding.{voided_at, voided_total}
 
 -- one seat and its slip are written
 agree_set : (b : Books) (f : ℕ → Slip) (i : ℕ) (s : Seat) (u : Slip) → length b.seats ≡ 7 → Agree s u → ((k : ℕ) → k < 7 → Agree (seat_at b k) (f k)) → (k : ℕ) → k < 7 → Agree (get_or (set b.seats i s) k nobody) (at f i u k)
@@ -65,9 +67,9 @@ module _ (R : Rules) (facts : Facts R) where
         unmade_and c x = ap (λ y. y && x) (unmade_is c)
 
     -- a settled seat
-    settled_agree : (r : Round) (s : Sound R b) → b.stage ≡ Dealt r → missing R b ≡ 0 → (k : ℕ) → k < 7 → Agree (seat_at (settled_in R b (Dealt r)) k) ((settled_by R t (Some (deal_of r))).slip k)
+    settled_agree : (r : Round) (s : Sound R b) → b.stage ≡ Dealt r → missing R b ≡ None → (k : ℕ) → k < 7 → Agree (seat_at (settled_in R b (Dealt r)) k) ((settled_by R t (Some r)).slip k)
     settled_agree r s e m k lt =
-        let d = deal_of r in
+        let d = r in
         let may = may_all R b s m in
         let p = settle_all R facts b r s e may 7 (omega arith) in
         let a = l.seats k lt in
@@ -80,21 +82,15 @@ module _ (R : Rules) (facts : Facts R) where
         subst (λ x. Agree x ((settled_by R t (Some d)).slip k)) (sym same)
         (record { balance = omega (arith, ints, returned, laying, adding, a.balance, (s.seats k lt).raise); stakes = refl; choice = refl })
 
-    voided_agree : (r : Round) (s : Sound R b) → b.stage ≡ Dealt r → (k : ℕ) → k < 7 → Agree (seat_at (voided b) k) (cleared_slip (t.slip k) (t.slip k).balance)
-    voided_agree r s e k lt =
-        let p = void_all R facts b r s e 7 (omega arith) in
+    voided_agree : (k : ℕ) → k < 7 → Agree (seat_at (voided b) k) (cleared_slip (t.slip k) (t.slip k).balance)
+    voided_agree k lt =
         let a = l.seats k lt in
-        subst (λ x. Agree x (cleared_slip (t.slip k) (t.slip k).balance)) (sym (ap (λ x. seat_at x k) (sym (voided_is R facts b r s e)) ∙ p.done k lt))
-        (record { balance = omega (arith, ints, a.balance); stakes = refl; choice = refl })
+        subst (λ x. Agree x (cleared_slip (t.slip k) (t.slip k).balance)) (sym (voided_at b k lt)) (record { balance = omega (arith, ints, a.balance); stakes = refl; choice = refl })
 
-    settled_tallied : Sound R b → missing R b ≡ 0 → (g : Stage) (o : Option game.Deal) → b.stage ≡ g → o ≡ deal_on g → is_betting g ≡ false → Tallied (settled_in R b g) (settled_by R t o)
+    settled_tallied : Sound R b → missing R b ≡ None → (g : Stage) (o : Option game.Deal) → b.stage ≡ g → o ≡ deal_on g → is_betting g ≡ false → Tallied (settled_in R b g) (settled_by R t o)
     settled_tallied s m Betting o e q h = absurd (true≢false h)
     settled_tallied s m (Dealt r) o e q h =
         subst (λ x. Tallied (settled_in R b (Dealt r)) (settled_by R t x)) (sym q) (record { seats = settled_agree r s e m; deal = refl })
-
-    voided_tallied : Sound R b → (g : Stage) → b.stage ≡ g → is_betting g ≡ false → Tallied (voided b) (counted R t Void)
-    voided_tallied s Betting e h = absurd (true≢false h)
-    voided_tallied s (Dealt r) e h = record { seats = voided_agree r s e; deal = refl }
 
     tallied_after : (c : Call) (free : ℕ) → Sound R b → NoneHolds (causes R b c free) → Tallied (after R b c) (counted R t c)
     tallied_after (Open conditions tray) free s p = l
@@ -112,8 +108,7 @@ module _ (R : Rules) (facts : Facts R) where
         record { seats = agree_set b t.slip (i - 1) _ _ s.seven (record { balance = omega (arith, ints, a.balance, o.rack, o.sums); stakes = ap (λ x. set x (j - 1) n) a.stakes; choice = a.choice }) l.seats; deal = l.deal }
     tallied_after (Deal cards) free s p = record {
       seats = l.seats;
-      deal = ap (λ w. Some (deal w cards)) (every_agree (is_staked t.slip) (λ k. does_stake (seat_at b k)) staked_is)
-          ∙ ap (λ x. Some (deal (staking b) x)) (sym (take_at cards (replicate (40 - length cards) 0) (length cards) refl));
+      deal = ap (λ w. Some (deal w cards)) (every_agree (is_staked t.slip) (λ k. does_stake (seat_at b k)) staked_is);
     }
     tallied_after (Raise i) free s p =
         let o = raise_shown R facts b i free s p in
@@ -123,8 +118,8 @@ module _ (R : Rules) (facts : Facts R) where
         let o = leave_shown R facts b i free s p in
         let a = l.seats (i - 1) o.0.seat in
         record { seats = agree_set b t.slip (i - 1) _ _ s.seven (record { balance = a.balance; stakes = a.stakes; choice = refl }) l.seats; deal = l.deal }
-    tallied_after Settle free s p = settled_tallied s (eqb-true _ _ (not-false _ p.1.0)) b.stage t.deal refl l.deal p.0
-    tallied_after Void free s p = voided_tallied s b.stage refl p.0
+    tallied_after Settle free s p = settled_tallied s (none_missing _ p.1.0) b.stage t.deal refl l.deal p.0
+    tallied_after Void free s p = record { seats = voided_agree; deal = refl }
 
   total_after : (b : Books) (c : Call) (free : ℕ) → Sound R b → NoneHolds (causes R b c free) → total (after R b c) + takes_away c ≡ total b + brings c
   total_after b (Open conditions tray) free s p = refl
@@ -136,8 +131,8 @@ module _ (R : Rules) (facts : Facts R) where
   total_after b (Deal cards) free s p = refl
   total_after b (Raise i) free s p = let o = raise_shown R facts b i free s p in omega (arith, total_set b (i - 1) (with_raise (seat_at b (i - 1)) (R.raise (seat_at b (i - 1)).stakes)) s.seven o.0.seat, o.1, o.0.unraised)
   total_after b (Leave i) free s p = let o = leave_shown R facts b i free s p in omega (arith, total_set b (i - 1) (with_leave (seat_at b (i - 1))) s.seven o.0.seat)
-  total_after b Settle free s p = ap (λ n. n + 0) (total_after_settle R facts b s (eqb-true _ _ (not-false _ p.1.0)) b.stage refl)
-  total_after b Void free s p = ap (λ n. n + 0) (total_after_void R facts b s b.stage refl p.0)
+  total_after b Settle free s p = ap (λ n. n + 0) (total_after_settle R facts b s (none_missing _ p.1.0) b.stage refl)
+  total_after b Void free s p = ap (λ n. n + 0) (voided_total R facts b s)
 
   -- whether a deal is on the table
   dealt_is : (g : Stage) → is_dealt (deal_on g) ≡ not (is_betting g)
@@ -145,12 +140,12 @@ module _ (R : Rules) (facts : Facts R) where
   dealt_is (Dealt r) = refl
 
   -- where none of some tests holds, the first seat that they pick is none
-  none_first : (p : ℕ → Bool) (ks : List ℕ) → none_of (map p ks) ≡ true → first_seat p ks ≡ 0
+  none_first : (p : ℕ → Bool) (ks : List ℕ) → none_of (map p ks) ≡ true → first_seat p ks ≡ None
   none_first p [] e = refl
   none_first p (k ∷ ks) e =
       let q = and_parts (not (p k)) (none_of (map p ks)) e in
       let out : p k ≡ false = not_true (p k) q.0 in
-      ap (λ t. cond t (k + 1) (first_seat p ks)) out ∙ none_first p ks q.1
+      ap (λ t. cond t (Some (k + 1)) (first_seat p ks)) out ∙ none_first p ks q.1
     where
       not_true : (x : Bool) → not x ≡ true → x ≡ false
       not_true true h = sym h
@@ -161,7 +156,7 @@ module _ (R : Rules) (facts : Facts R) where
       let q = and_parts (is_dealt t.deal) (none_of (map (λ k. is_awaited R (t.slip k)) seats)) ready in
       let dealt : not (is_betting b.stage) ≡ true = sym (ap is_dealt l.deal ∙ dealt_is b.stage) ∙ q.0 in
       let waits : map (λ k. is_awaited R (t.slip k)) seats ≡ map (λ k. due R (seat_at b k)) every = every_agree (λ k. is_awaited R (t.slip k)) (λ k. due R (seat_at b k)) (awaited_is b t l) in
-      let complete : missing R b ≡ 0 = none_first (λ k. due R (seat_at b k)) every (sym (ap none_of waits) ∙ q.1) in
+      let complete : missing R b ≡ None = none_first (λ k. due R (seat_at b k)) every (sym (ap none_of waits) ∙ q.1) in
       let places : entries t ≡ stakers b = ap sum (every_agree (λ k. cond (is_staked t.slip k) 1 0) (λ k. one_if (does_stake (seat_at b k))) (λ k lt. ap one_if (staked_is b t l k lt))) in
       told ∙ ap (λ x. is_ok (verdict R b x free)) is_settle ∙ accepts (is_betting b.stage) (missing R b) (stakers b) free (flip (is_betting b.stage) dealt) complete ∙ ap (λ n. leb n free) (sym places)
     where
@@ -169,7 +164,7 @@ module _ (R : Rules) (facts : Facts R) where
       flip true h = sym h
       flip false h = refl
 
-      accepts : (x : Bool) (m n p : ℕ) → x ≡ false → m ≡ 0 → is_ok (judged (first_cause ((x, WrongStage) ∷ (not (eqb m 0), ChoiceMissing) ∷ (ltb p n, NoPlaceFree) ∷ [])) (refusal R b Settle)) ≡ leb n p
+      accepts : (x : Bool) (m : Option ℕ) (n p : ℕ) → x ≡ false → m ≡ None → is_ok (judged (first_cause ((x, WrongStage) ∷ (is_some m, ChoiceMissing) ∷ (ltb p n, NoPlaceFree) ∷ [])) (refusal R b Settle)) ≡ leb n p
       accepts x m n p hx hm = rw (hx, hm) (go (ltb p n) refl)
         where
           go : (t : Bool) → ltb p n ≡ t → is_ok (judged (cond t (Some NoPlaceFree) None) (refusal R b Settle)) ≡ leb n p

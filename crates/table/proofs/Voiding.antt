@@ -1,30 +1,41 @@
--- A round as it is voided seat by seat.
-use Rattle.std.proofs.Common.{◌≡◌, ℕ, ◌+◌, ◌<◌, Ok, sym, refl, ap, ◌∙◌, subst, add-one, arith}
-use Rattle.commands.specs.Calls.{Void}
+-- A voided round: all seats at once.
+use Rattle.std.proofs.Common.{◌≡◌, ℕ, ◌<◌, List, map, length, get_or, sum_by, refl, ap, ◌∙◌, arith}
 use Rattle.game.specs.Rules.{Rules, Facts}
-use Rattle.books.specs.declared.stage.Round.{Round}
-use Rattle.books.specs.declared.stage.Stage.TheVariants.{Betting, Dealt}
+use Rattle.books.specs.declared.seat.Seat.{Seat}
+use Rattle.books.specs.declared.stage.Stage.TheVariants.{Betting}
 use Rattle.books.specs.declared.table_books.Books.{Books}
-use Rattle.books.specs.Books.{with_stage}
-use Rattle.table.specs.Calls.{Did}
-use Rattle.table.specs.Soundness.{Sound}
-use Rattle.table.specs.Steps.{void_seat, void_to}
-use Rattle.table.proofs.Ended.{voided_is}
-use Rattle.table.proofs.Keep.{void_all}
+use Rattle.books.specs.Books.{empty, nobody, seat_at, chips, with_stage}
+use Rattle.table.specs.Effects.{voided, voided_seat}
+use Rattle.table.specs.Holdings.{total, every}
+use Rattle.table.specs.Soundness.{SeatSound, Sound}
+use Rattle.table.proofs.Keep.{empty_small, cleared_sound}
+use Rattle.table.proofs.Seats.{seven, every_agree, seven_places}
 
-module _ {G : Type 0} (rules : G → Rules) (facts : (g : G) → Facts (rules g)) (g : G) (r : Round) (b : Books) (s : Sound (rules g) b) (dealt : b.stage ≡ Dealt r) where
-  -- the books stay sound from seat to seat
-  pub void_asks : (g' : G) (k : ℕ) (b' : Books) → k < 7 → g' ≡ g → b' ≡ void_to k b → record { seat : k < 7; sound : Sound (rules g') b' }
-  void_asks g' k b' lt same h = record {
-    seat = lt;
-    sound = subst (λ x. Sound (rules x) b') (sym same) (subst (Sound (rules g)) (sym h) (void_all (rules g) (facts g) b r s dealt k (omega arith)).sound);
-  }
+-- where each of seven seats is voided, and the table is betting again, the round is voided
+pub all_voided : (b : Books) (seats : List Seat) → length seats ≡ 7 → ((k : ℕ) → k < 7 → get_or seats k nobody ≡ voided_seat (seat_at b k))
+    → with_stage (record { tray = b.tray; seats = seats; stage = b.stage; rounds = b.rounds; minimum = b.minimum; maximum = b.maximum }) Betting ≡ voided b
+all_voided b seats long each =
+    let same : seats ≡ map (λ k. voided_seat (seat_at b k)) every = seven_places seats nobody long ∙ every_agree (λ k. get_or seats k nobody) (λ k. voided_seat (seat_at b k)) each in
+    λ i. record { tray = b.tray; seats = same i; stage = Betting; rounds = b.rounds; minimum = b.minimum; maximum = b.maximum }
 
-  pub void_goes_on : (k : ℕ) (b' b'' : Books) → b' ≡ void_to k b → b'' ≡ void_seat b' k → b'' ≡ void_to (k + 1) b
-  void_goes_on k b' b'' h did = did ∙ ap (λ x. void_seat x k) h ∙ sym (ap (λ n. void_to n b) (add-one k))
+pub voided_at : (b : Books) (k : ℕ) → k < 7 → seat_at (voided b) k ≡ voided_seat (seat_at b k)
+voided_at b = seven (λ k. seat_at (voided b) k ≡ voided_seat (seat_at b k)) (refl, refl, refl, refl, refl, refl, refl)
 
-  pub void_ends : (k : ℕ) (b' : Books) → k ≡ 7 → b' ≡ void_to k b → Did (rules g) b Void 0 (Ok tt) (with_stage b' Betting)
-  void_ends k b' is_7 h = record {
-    answer = rw dealt refl;
-    books = ap (λ x. with_stage x Betting) h ∙ ap (λ j. with_stage (void_to j b) Betting) is_7 ∙ voided_is (rules g) (facts g) b r s dealt;
-  }
+module _ (R : Rules) (facts : Facts R) (b : Books) (s : Sound R b) where
+  pub voided_total : total (voided b) ≡ total b
+  voided_total = omega (arith, ap (sum_by chips) (seven_places b.seats nobody s.seven))
+
+  pub voided_sound : Sound R (voided b)
+  voided_sound =
+      let clear = λ (k : ℕ). cleared_sound R (seat_at b k) ((voided_seat (seat_at b k)).rack) in
+      record {
+        seven = refl;
+        seats = seven (λ k. SeatSound R (seat_at (voided b) k)) (clear 0, clear 1, clear 2, clear 3, clear 4, clear 5, clear 6);
+        within = omega (arith, voided_total, s.within);
+        covered = omega (arith, facts.idle_ceiling empty empty_small refl);
+        counted = s.counted;
+        least = s.least;
+        bounds = s.bounds;
+        most = s.most;
+        stands = seven (λ k. (seat_at (voided b) k).choice ≡ (voided_seat (seat_at b k)).choice) (refl, refl, refl, refl, refl, refl, refl);
+      }

@@ -1,39 +1,39 @@
 -- Why a call is refused: for each call its causes, as conditions on the table before it, in the order in which they go first.
-use Rattle.std.specs.Prelude.{ℕ, ◌+◌, ◌-◌, Bool, true, false, cond, not, ◌&&◌, ◌||◌, List, [], ◌∷◌, Some, None, Ok, Err, Option, Result, ◌==◌, nat_le, nat_lt, slice_index, slice_set}
+use Rattle.std.specs.Prelude.{ℕ, ◌+◌, ◌-◌, Bool, true, false, cond, not, ◌&&◌, ◌||◌, List, [], ◌∷◌, Some, None, Ok, Err, is_some, unwrap_or, Option, Result, ◌==◌, nat_le, nat_lt, slice_index, slice_set}
 use Rattle.refusals.specs.declared.Cause.{Cause}
 use Rattle.refusals.specs.declared.Cause.TheVariants.{WrongStage, NoSuchSeat, NoBets, BadAmount, SpaceTaken, NoCompanion, RackTooSmall, TrayTooSmall, TotalTooLarge, NoStakes, NoRoundsLeft, NoCard, WrongCount, NoChoiceOpen, LeavingBarred, ChoiceMissing, NoPlaceFree}
 use Rattle.refusals.specs.declared.Refusal.{Refusal}
 use Rattle.refusals.specs.Refusals.{first_cause, number_of, refused}
 use Rattle.commands.specs.Calls.{Call, Open, Buy, Cash, Fill, Draw, Bet, Deal, Raise, Leave, Settle, Void, seat_named}
-use Rattle.game.specs.declared.taking.Taking.{Taking}
-use Rattle.game.specs.declared.taking.Taking.TheVariants.{Takes, NoBets as Bars, NoCompanion as Lacks}
-use Rattle.game.specs.declared.dealing.Dealing.{Dealing}
-use Rattle.game.specs.declared.dealing.Dealing.TheVariants.{Lawful, NoCard as Strange, WrongCount as Miscounted}
+use Rattle.game.specs.declared.taking.Barred.{Barred}
+use Rattle.game.specs.declared.taking.Barred.TheVariants.{NoBets as Bars, NoCompanion as Lacks}
+use Rattle.game.specs.declared.dealing.Misdeal.{Misdeal}
+use Rattle.game.specs.declared.dealing.Misdeal.TheVariants.{NoCard as Strange, WrongCount as Miscounted}
 use Rattle.game.specs.Rules.{Rules, deal}
 use Rattle.books.specs.declared.seat.Seat.{Seat}
 use Rattle.books.specs.declared.table_books.Books.{Books}
 use Rattle.books.specs.Books.{seat_at}
 use Rattle.table.specs.Holdings.{limit, most_rounds, total, ceilings, staking, stakers, due, missing, is_betting, bad_seat, bad_space}
 
-abbrev pub does_bar : Taking → Bool
-does_bar Takes = false
-does_bar Bars = true
-does_bar Lacks = false
+abbrev pub does_bar : Result (Unit {0}) Barred → Bool
+does_bar (Ok takes) = false
+does_bar (Err Bars) = true
+does_bar (Err Lacks) = false
 
-abbrev pub does_lack : Taking → Bool
-does_lack Takes = false
-does_lack Bars = false
-does_lack Lacks = true
+abbrev pub does_lack : Result (Unit {0}) Barred → Bool
+does_lack (Ok takes) = false
+does_lack (Err Bars) = false
+does_lack (Err Lacks) = true
 
-abbrev pub is_strange : Dealing → Bool
-is_strange Lawful = false
-is_strange Strange = true
-is_strange Miscounted = false
+abbrev pub is_strange : Result (Unit {0}) Misdeal → Bool
+is_strange (Ok lawful) = false
+is_strange (Err Strange) = true
+is_strange (Err Miscounted) = false
 
-abbrev pub is_miscounted : Dealing → Bool
-is_miscounted Lawful = false
-is_miscounted Strange = false
-is_miscounted Miscounted = true
+abbrev pub is_miscounted : Result (Unit {0}) Misdeal → Bool
+is_miscounted (Ok lawful) = false
+is_miscounted (Err Strange) = false
+is_miscounted (Err Miscounted) = true
 
 -- a seat after a stake on a space, moved from its rack
 abbrev pub with_bet : Seat → ℕ → ℕ → Seat
@@ -73,13 +73,13 @@ causes R b (Leave s) free =
     ∷ (not (R.leaves (seat_at b (s - 1)).stakes), LeavingBarred) ∷ []
 causes R b Settle free =
     (is_betting b.stage, WrongStage)
-    ∷ (not (missing R b == 0), ChoiceMissing)
+    ∷ (is_some (missing R b), ChoiceMissing)
     ∷ (nat_lt free (stakers b), NoPlaceFree) ∷ []
 causes R b Void free = (is_betting b.stage, WrongStage) ∷ []
 
 -- the refusal for a cause: it names the seat that the call named, or the lowest seat whose choice is missing
 abbrev pub refusal : Rules → Books → Call → Cause → Refusal
-refusal R b c x = refused x (cond (number_of x == 16) (missing R b) (seat_named c))
+refusal R b c x = refused x (cond (number_of x == 16) (unwrap_or (missing R b) 0) (seat_named c))
 
 abbrev pub judged : Option Cause → (Cause → Refusal) → Result (Unit {0}) Refusal
 judged None f = Ok tt

@@ -3,13 +3,13 @@ use Rattle.std.specs.Prelude.{ℕ, ◌+◌, ◌-◌, map, sum}
 use Rattle.commands.specs.Calls.{Call, Open, Buy, Cash, Fill, Draw, Bet, Deal, Raise, Leave, Settle, Void}
 use Rattle.game.specs.declared.choice.Choice.TheVariants.{Raised, Left}
 use Rattle.game.specs.Rules as game
-use Rattle.game.specs.Rules.{Rules}
+use Rattle.game.specs.Rules.{Rules, deal}
 use Rattle.books.specs.declared.seat.Seat.{Seat}
 use Rattle.books.specs.declared.stage.Round.{Round}
 use Rattle.books.specs.declared.stage.Stage.{Stage}
 use Rattle.books.specs.declared.stage.Stage.TheVariants.{Betting, Dealt}
 use Rattle.books.specs.declared.table_books.Books.{Books}
-use Rattle.books.specs.Books.{seat_at, laid, cleared, deal_of, round_of, with_tray, with_seat, with_rack}
+use Rattle.books.specs.Books.{seat_at, laid, cleared, with_tray, with_seat, with_rack}
 use Rattle.table.specs.Causes.{with_bet}
 use Rattle.table.specs.Holdings.{every, staking}
 
@@ -41,13 +41,17 @@ settled R b d = record {
 
 abbrev pub settled_in : Rules → Books → Stage → Books
 settled_in R b Betting = b
-settled_in R b (Dealt r) = settled R b (deal_of r)
+settled_in R b (Dealt r) = settled R b r
+
+-- a voided seat: what it laid is back in its rack, and its choice is over
+abbrev pub voided_seat : Seat → Seat
+voided_seat s = cleared s (s.rack + laid s)
 
 -- a table whose round is voided: all that was laid is back in the racks; spaces and choices are empty
 abbrev pub voided : Books → Books
 voided b = record {
   tray = b.tray;
-  seats = map (λ k. cleared (seat_at b k) ((seat_at b k).rack + laid (seat_at b k))) every;
+  seats = map (λ k. voided_seat (seat_at b k)) every;
   stage = Betting;
   rounds = b.rounds;
   minimum = b.minimum;
@@ -62,7 +66,7 @@ after R b (Cash s n) = with_seat b (s - 1) (with_rack (seat_at b (s - 1)) ((seat
 after R b (Fill n) = with_tray b (b.tray + n)
 after R b (Draw n) = with_tray b (b.tray - n)
 after R b (Bet s j n) = with_seat b (s - 1) (with_bet (seat_at b (s - 1)) j n)
-after R b (Deal cards) = with_round b (round_of (staking b) cards)
+after R b (Deal cards) = with_round b (deal (staking b) cards)
 after R b (Raise s) = with_seat b (s - 1) (with_raise (seat_at b (s - 1)) (R.raise (seat_at b (s - 1)).stakes))
 after R b (Leave s) = with_seat b (s - 1) (with_leave (seat_at b (s - 1)))
 after R b Settle = settled_in R b b.stage

@@ -9,7 +9,7 @@ use Rattle.books.specs.declared.seat.Seat.{Seat}
 use Rattle.books.specs.declared.stage.Stage.{Stage}
 use Rattle.books.specs.declared.stage.Stage.TheVariants.{Betting, Dealt}
 use Rattle.books.specs.declared.table_books.Books.{Books}
-use Rattle.books.specs.Books.{seat_at, laid, deal_of}
+use Rattle.books.specs.Books.{seat_at, laid}
 use Rattle.table.specs.Effects.{return_to}
 use Rattle.table.specs.Holdings.{every, does_stake}
 
@@ -23,7 +23,7 @@ entries_of R b d ks = map (λ k. entry_of R b.rounds d k (seat_at b k)) (filter 
 
 abbrev pub entries_in : Rules → Books → Stage → List Entry
 entries_in R b Betting = []
-entries_in R b (Dealt r) = entries_of R b (deal_of r) every
+entries_in R b (Dealt r) = entries_of R b r every
 
 -- the entries that an accepted call writes
 abbrev pub writes : Rules → Books → Call → List Entry

@@ -1,5 +1,5 @@
 -- What a table holds: its total, the ceilings it has to cover, who stakes, and which choices are due.
-use Rattle.std.specs.Prelude.{ℕ, ◌+◌, Bool, true, false, cond, ◌&&◌, ◌||◌, List, [], ◌∷◌, map, sum_by, sum, ◌==◌, nat_lt}
+use Rattle.std.specs.Prelude.{ℕ, ◌+◌, Bool, true, false, cond, ◌&&◌, ◌||◌, List, [], ◌∷◌, map, Some, None, sum_by, sum, Option, ◌==◌, nat_lt}
 use Rattle.game.specs.declared.choice.Choice.{Choice}
 use Rattle.game.specs.declared.choice.Choice.TheVariants.{Open, Raised, Left}
 use Rattle.game.specs.Rules.{Rules}
@@ -53,13 +53,13 @@ is_open Left = false
 abbrev pub due : Rules → Seat → Bool
 due R s = is_open s.choice && R.chooses s.stakes
 
--- the number of the first of some seats that a test picks; 0 where it picks none
-abbrev pub first_seat : (ℕ → Bool) → List ℕ → ℕ
-first_seat p [] = 0
-first_seat p (k ∷ ks) = cond (p k) (k + 1) (first_seat p ks)
+-- the number of the first of some seats that a test picks
+abbrev pub first_seat : (ℕ → Bool) → List ℕ → Option ℕ
+first_seat p [] = None
+first_seat p (k ∷ ks) = cond (p k) (Some (k + 1)) (first_seat p ks)
 
--- the lowest seat whose choice is missing; 0 where none is
-abbrev pub missing : Rules → Books → ℕ
+-- the lowest seat whose choice is missing
+abbrev pub missing : Rules → Books → Option ℕ
 missing R b = first_seat (λ k. due R (seat_at b k)) every
 
 abbrev pub is_betting : Stage → Bool

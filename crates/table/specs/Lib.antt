@@ -9,3 +9,4 @@ pub mod Tally
 pub mod Promise
 pub mod Opening
 pub mod Performing
+pub mod Single

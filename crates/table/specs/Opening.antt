@@ -1,6 +1,6 @@
 -- What opening a table answers: a newly opened table, or why there is none.
 use Rattle.std.specs.Prelude.{◌≡◌, ℕ, Bool, ◌||◌, List, [], ◌∷◌, Some, None, Ok, Err, Option, Result, ◌==◌, nat_lt}
-use Rattle.game.specs.Rules.{Rules}
+use Rattle.game.specs.declared.interface.Game.{Ghosts}
 use Rattle.refusals.specs.declared.Cause.{Cause}
 use Rattle.refusals.specs.declared.Refusal.{Refusal}
 use Rattle.refusals.specs.Refusals.{first_cause, refused}
@@ -24,8 +24,8 @@ refused_by None = None
 refused_by (Some c) = Some (refused c 0)
 
 -- a newly opened table, to which the empty history leads; or the refusal of the first cause that holds
-abbrev pub Opened : {G : Type 0} → (G → Rules) → G → ℕ → ℕ → ℕ → Result (Table G) Refusal → Type 0
-Opened rules game minimum maximum tray (Ok t) =
+abbrev pub Opened : {G : Type 0} (g : Ghosts G) → G → ℕ → ℕ → ℕ → Result (Table G g) Refusal → Type 0
+Opened g game minimum maximum tray (Ok t) =
     (first_cause (open_causes minimum maximum tray) ≡ None) × (t.game ≡ game) × (t.books ≡ opened minimum maximum tray)
-    × Sound (rules t.game) t.books × Reached (rules game) minimum maximum tray [] t.books
-Opened rules game minimum maximum tray (Err e) = Some e ≡ refused_by (first_cause (open_causes minimum maximum tray))
+    × Sound (g.rules t.game) t.books × Reached (g.rules game) minimum maximum tray [] t.books
+Opened g game minimum maximum tray (Err e) = Some e ≡ refused_by (first_cause (open_causes minimum maximum tray))

@@ -1,15 +1,13 @@
 -- The promise over any list of calls: what holds of a table that a history of calls has led to.
-use Rattle.std.specs.Prelude.{◌≡◌, ℕ, ◌+◌, ◌<◌, true, List, [], ◌∷◌, ◌++◌, map, length, take, pos, is_ok, Some, None, Option, Result, nat_le, slice_index_or}
+use Rattle.std.specs.Prelude.{◌≡◌, ℕ, ◌+◌, ◌<◌, true, List, [], ◌∷◌, ◌++◌, map, length, take, pos, is_ok, Result, nat_le, slice_index_or}
 use Rattle.refusals.specs.declared.Refusal.{Refusal}
 use Rattle.commands.specs.Calls.{Call, Settle}
 use Rattle.game.specs.declared.choice.Choice.TheVariants.{Open as open_choice}
-use Rattle.game.specs.Rules as game
 use Rattle.game.specs.Rules.{Rules}
 use Rattle.books.specs.declared.seat.Seat.{Seat}
-use Rattle.books.specs.declared.stage.Stage.{Stage}
-use Rattle.books.specs.declared.stage.Stage.TheVariants.{Betting, Dealt}
+use Rattle.books.specs.declared.stage.Stage.TheVariants.{Betting}
 use Rattle.books.specs.declared.table_books.Books.{Books}
-use Rattle.books.specs.Books.{empty, seat_at, chips, deal_of}
+use Rattle.books.specs.Books.{empty, seat_at, chips, deal_on}
 use Rattle.table.specs.Calls.{Did}
 use Rattle.table.specs.Holdings.{total, every}
 use Rattle.table.specs.Tally.{Turn, turn, Slip, Tally, tally, brought, taken, is_ready, entries}
@@ -32,11 +30,6 @@ pub record Agree (s : Seat) (u : Slip) : Type 0 where
   pub balance : pos (chips s) ≡ u.balance
   pub stakes : u.stakes ≡ s.stakes
   pub choice : u.choice ≡ s.choice
-
--- the deal on the table
-abbrev pub deal_on : Stage → Option game.Deal
-deal_on Betting = None
-deal_on (Dealt r) = Some (deal_of r)
 
 pub record Tallied (b : Books) (t : Tally) : Type 0 where
   pub seats : (k : ℕ) → k < 7 → Agree (seat_at b k) (t.slip k)

@@ -7,7 +7,7 @@ use Rattle.books.specs.declared.seat.Seat.{Seat}
 use Rattle.books.specs.declared.stage.Stage.{Stage}
 use Rattle.books.specs.declared.stage.Stage.TheVariants.{Betting, Dealt}
 use Rattle.books.specs.declared.table_books.Books.{Books}
-use Rattle.books.specs.Books.{seat_at, deal_of}
+use Rattle.books.specs.Books.{seat_at}
 use Rattle.table.specs.Holdings.{limit, most_rounds, total, ceilings}
 
 -- a choice that was made is one that the game allows
@@ -22,10 +22,10 @@ pub record SeatSound (R : Rules) (s : Seat) : Type 0 where
   pub raise : s.raised ≡ added R s.stakes s.choice
   pub chosen : Chosen R s s.choice
 
--- while betting no choice is made; while dealt the deal is lawful, and its cards are all held
+-- while betting no choice is made; while dealt the deal is lawful
 abbrev pub StageSound : Rules → Books → Stage → Type 0
 StageSound R b Betting = (k : ℕ) → k < 7 → (seat_at b k).choice ≡ Open
-StageSound R b (Dealt r) = Fair R (deal_of r) × (r.count ≤ length r.bytes)
+StageSound R b (Dealt r) = Fair R r
 
 pub record Sound (R : Rules) (b : Books) : Type 0 where
   pub seven : length b.seats ≡ 7

@@ -1,66 +1,61 @@
 // Bet and Deal: what is done while the table is betting.
-ghost use Rattle.std.specs.Prelude.{◌≡◌};
-ghost use Rattle.commands.specs.Calls.{Bet, Deal};
+ghost use Rattle.std.specs.Prelude.{◌≡◌, ◌-◌, ◌<◌, true, false, MatchOption};
+ghost use Rattle.commands.specs.Calls.{Bet, Deal as Deals};
 ghost use Rattle.table.specs.Calls.{Did};
 ghost use Rattle.table.specs.Holdings.{bad_space};
-ghost use Rattle.table.specs.Soundness.{Sound};
 
-use crate::buying::is_no_seat;
+use crate::buying::place_of;
 use crate::holdings::{MOST_ROUNDS, Table};
 use books::stage::{Round, Stage};
-use game::dealing::Dealing;
+use game::deal::Deal;
 use game::interface::Game;
-use game::taking::Taking;
+use game::taking::Barred;
 use refusals::{Cause, Refusal};
 
-// Whether no space has this number.
-fn is_no_space(space: u8) -> bool
-    ensures { result ≡ bad_space space }
+// The place of the space with this number, if there is one.
+fn place_of_space(space: u8) -> Option<usize>
+    ensures { MatchOption result (bad_space space ≡ true) (λ place. (bad_space space ≡ false) × (place ≡ space - 1) × (place < 5)) }
 {
-    space == 0 || space > 5
+    match space {
+        1..=5 => Some(usize::from(space) - 1),
+        _ => None,
+    }
 }
 
 impl<G: Game> Table<G> {
     // Moves a stake from the rack to an empty space, as far as the tray covers the ceilings then.
     pub(crate) fn bet(&mut self, seat: u8, space: u8, amount: u32) -> Result<(), Refusal>
-        requires { Sound (G.rules self.old.game) self.old.books }
         ensures did { Did (G.rules self.old.game) self.old.books (Bet seat space amount) 0 result self.new.books }
         ensures game { self.new.game ≡ self.old.game }
     {
         let Stage::Betting = self.books.stage else {
             return Err(Refusal::new(Cause::WrongStage, seat));
         };
-        if is_no_seat(seat) {
-            return Err(Refusal::new(Cause::NoSuchSeat, seat));
-        }
-        if is_no_space(space) {
+        let place = place_of(seat)?;
+        let Some(on) = place_of_space(space) else {
             return Err(Refusal::new(Cause::NoBets, seat));
-        }
-        let at = seat as usize - 1;
-        let mut s = self.books.seats[at];
+        };
+        // On a copy, since the tray may refuse a stake that is already laid.
+        let mut seats = self.books.seats;
+        let s = &mut seats[place];
         let taking = self.game.takes(&s.stakes, space);
-        if let Taking::NoBets = taking {
+        if let Err(Barred::NoBets) = taking {
             return Err(Refusal::new(Cause::NoBets, seat));
         }
         if amount == 0 || amount < self.books.minimum || amount > self.books.maximum {
             return Err(Refusal::new(Cause::BadAmount, seat));
         }
-        let on = space as usize - 1;
-        let mut stakes = s.stakes;
-        if stakes[on] != 0 {
+        if s.stakes[on] != 0 {
             return Err(Refusal::new(Cause::SpaceTaken, seat));
         }
-        if let Taking::NoCompanion = taking {
+        if let Err(Barred::NoCompanion) = taking {
             return Err(Refusal::new(Cause::NoCompanion, seat));
         }
-        if s.rack < amount as u64 {
+        if s.rack < u64::from(amount) {
             return Err(Refusal::new(Cause::RackTooSmall, seat));
         }
-        stakes[on] = amount;
-        s.rack -= amount as u64;
-        s.stakes = stakes;
-        let mut seats = self.books.seats;
-        seats[at] = s;
+        s.stakes[on] = amount;
+        s.rack -= u64::from(amount);
         if self.books.tray < self.ceilings(&seats) {
             return Err(Refusal::new(Cause::TrayTooSmall, seat));
         }
@@ -70,8 +65,7 @@ impl<G: Game> Table<G> {
 
     // Takes the cards of a round for the seats that stake, and counts the round.
     pub(crate) fn deal(&mut self, cards: &[u8]) -> Result<(), Refusal>
-        requires { Sound (G.rules self.old.game) self.old.books }
-        ensures did { Did (G.rules self.old.game) self.old.books (Deal cards.now) 0 result self.new.books }
+        ensures did { Did (G.rules self.old.game) self.old.books (Deals cards.now) 0 result self.new.books }
         ensures game { self.new.game ≡ self.old.game }
     {
         let Stage::Betting = self.books.stage else {
@@ -83,15 +77,15 @@ impl<G: Game> Table<G> {
         if self.books.rounds >= MOST_ROUNDS {
             return Err(Refusal::new(Cause::NoRoundsLeft, 0));
         }
-        let staking = self.staking();
-        match self.game.deals(&staking, cards) {
-            Dealing::NoCard => Err(Refusal::new(Cause::NoCard, 0)),
-            Dealing::WrongCount => Err(Refusal::new(Cause::WrongCount, 0)),
-            Dealing::Lawful => {
-                self.books.stage = Stage::Dealt(Round::new(staking, cards));
-                self.books.rounds += 1;
-                Ok(())
-            }
-        }
+        let deal = Deal {
+            staking: self.staking(),
+            cards,
+        };
+        self.game
+            .deals(&deal)
+            .map_err(|misdeal| Refusal::new(Cause::from(misdeal), 0))?;
+        self.books.stage = Stage::Dealt(Round::new(&deal));
+        self.books.rounds += 1;
+        Ok(())
     }
 }

@@ -3,6 +3,7 @@ ghost use Rattle.std.specs.Prelude.{◌≡◌, ℕ, ◌+◌, ◌<◌, ◌≤◌,
 ghost use Rattle.game.specs.Rules.{Small};
 ghost use Rattle.books.specs.Books.{nobody, seat_at};
 ghost use Rattle.table.specs.Holdings.{total, ceilings, does_stake, stakers, staking, due, missing};
+ghost use Rattle.table.specs.Single.{sound_one};
 ghost use Rattle.table.specs.Soundness.{Sound};
 
 use books::seat::Seat;
@@ -16,34 +17,39 @@ pub const LIMIT: u64 = 1_000_000_000_000;
 // The most rounds that are dealt.
 pub const MOST_ROUNDS: u32 = 1_000_000;
 
-// One game's table. The books are private: every call keeps them sound.
+// One game's table. That the game stays is a promise of each call: taken out of the table, it could not bear on what is sound.
+// Every value of the type has sound books; after `by` stands that being sound has one proof at most.
 #[derive(Drop)]
-pub struct Table<G> {
+pub struct Table<G: Game> {
     pub(crate) game: G,
     pub(crate) books: Books,
+    pub ghost sound: { Sound (G.rules game) books } by { sound_one (G.rules game) books },
 }
 
-impl<G> Table<G> {
+// Whether the seat stakes.
+pub(crate) fn does_stake(seat: &Seat) -> bool
+    ensures { result ≡ does_stake seat.now }
+{
+    seat.staked() > 0
+}
+
+impl<G: Game> Table<G> {
     // The books, to look at.
     pub fn books(&self) -> &Books
         ensures { result.now ≡ self.now.books }
     {
         &self.books
     }
-}
 
-impl<G: Game> Table<G> {
     // Tray, racks and spaces.
     pub(crate) fn total(&self) -> u64
-        requires { Sound (G.rules self.now.game) self.now.books }
         ensures { result ≡ total self.now.books }
     {
-        let mut sum = self.books.tray;
-        for i in 0..7 {
-            let s = self.books.seats[i];
-            sum += s.rack + s.laid();
+        let mut total = self.books.tray;
+        for seat in &self.books.seats {
+            total += seat.rack + seat.laid();
         }
-        sum
+        total
     }
 
     // The ceilings of all seats, added.
@@ -51,74 +57,47 @@ impl<G: Game> Table<G> {
         requires { (k : ℕ) → k < 7 → Small (slice_index_or seats.now k nobody).stakes }
         ensures { result ≡ ceilings (G.rules self.now.game) seats.now }
     {
-        let mut sum = 0;
-        for i in 0..7 {
-            sum += self.game.ceiling(&seats[i].stakes);
+        let mut ceilings = 0;
+        for seat in seats {
+            ceilings += self.game.ceiling(&seat.stakes);
         }
-        sum
-    }
-
-    // Whether the seat stakes.
-    pub(crate) fn stakes_at(&self, k: usize) -> bool
-        requires seat { k < 7 }
-        requires sound { Sound (G.rules self.now.game) self.now.books }
-        ensures { result ≡ does_stake (seat_at self.now.books k) }
-    {
-        let s = self.books.seats[k];
-        s.staked() > 0
+        ceilings
     }
 
     // Who stakes, from the first seat on.
     pub(crate) fn staking(&self) -> [bool; 7]
-        requires { Sound (G.rules self.now.game) self.now.books }
         ensures { result ≡ staking self.now.books }
     {
-        [
-            self.stakes_at(0),
-            self.stakes_at(1),
-            self.stakes_at(2),
-            self.stakes_at(3),
-            self.stakes_at(4),
-            self.stakes_at(5),
-            self.stakes_at(6),
-        ]
+        self.books.seats.map(|seat| does_stake(&seat))
     }
 
     // How many seats stake.
     pub(crate) fn stakers(&self) -> usize
-        requires { Sound (G.rules self.now.game) self.now.books }
         ensures { result ≡ stakers self.now.books }
     {
-        let mut count = 0;
-        for k in 0..7 {
-            if self.stakes_at(k) {
-                count += 1;
-            }
-        }
-        count
+        self.books
+            .seats
+            .iter()
+            .filter(|seat| does_stake(seat))
+            .count()
     }
 
     // Whether a choice is due at the seat.
-    pub(crate) fn is_due(&self, k: usize) -> bool
-        requires seat { k < 7 }
-        ensures { result ≡ due (G.rules self.now.game) (seat_at self.now.books k) }
+    pub(crate) fn is_due(&self, seat: &Seat) -> bool
+        ensures { result ≡ due (G.rules self.now.game) seat.now }
     {
-        let s = self.books.seats[k];
-        match s.choice {
-            Choice::Open => self.game.chooses(&s.stakes),
+        match seat.choice {
+            Choice::Open => self.game.chooses(&seat.stakes),
             _ => false,
         }
     }
 
-    // The number of the lowest seat whose choice is missing; 0 where none is.
-    pub(crate) fn missing(&self) -> u8
+    // The number of the lowest seat whose choice is missing.
+    pub(crate) fn missing(&self) -> Option<u8>
         ensures { result ≡ missing (G.rules self.now.game) self.now.books }
     {
-        for k in 0..7 {
-            if self.is_due(k) {
-                return k as u8 + 1;
-            }
-        }
-        0
+        let place = self.books.seats.iter().position(|seat| self.is_due(seat))?;
+        // A cast that is proved to fit: a conversion would have an error that cannot be.
+        Some(place as u8 + 1)
     }
 }

@@ -20,7 +20,7 @@ fn are_bad_bounds(minimum: u32, maximum: u32) -> bool
 impl<G: Game + Drop> Table<G> {
     // A newly opened table, or the refusal of its tray or its bounds.
     pub fn open(game: G, minimum: u32, maximum: u32, tray: u64) -> Result<Table<G>, Refusal>
-        ensures { Opened G.rules game minimum maximum tray result }
+        ensures { Opened G.Game game minimum maximum tray result }
     {
         if tray > LIMIT {
             return Err(Refusal::new(Cause::TotalTooLarge, 0));

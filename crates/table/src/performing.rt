@@ -1,8 +1,8 @@
-// One command on the table: decided by the stage and the command together.
+// One command on the table: decided by the stage and the command together, in one match in place, as the rules of the project fix it.
+// Each pair is named, those that are refused too, so that a new command has to be placed in both stages.
 ghost use Rattle.std.specs.Prelude.{◌≡◌};
 ghost use Rattle.commands.specs.Calls.{call_of};
 ghost use Rattle.table.specs.Performing.{Performed};
-ghost use Rattle.table.specs.Soundness.{Sound};
 
 use crate::holdings::Table;
 use books::stage::Stage;
@@ -19,7 +19,6 @@ impl<G: Game> Table<G> {
         command: Command<'_>,
         ledger: &mut Roll<'_, Entry>,
     ) -> Result<(), Refusal>
-        requires { Sound (G.rules self.old.game) self.old.books }
         ensures performed { Performed (G.rules self.old.game) self.old.books ledger.old (call_of command.entry) result self.new.books ledger.new }
         ensures game { self.new.game ≡ self.old.game }
     {

@@ -1,22 +1,27 @@
 // The terminal: a sheet settled from its first byte to its last, and the page that is printed of it.
 #![tactic(auto)]
 
-ghost use Rattle.std.specs.Prelude.{◌≡◌, ℕ, ◌≤◌, List, [], ◌++◌, length, IfOk, OnOk};
+ghost use Rattle.std.specs.Prelude.{◌≡◌, ℕ, ◌≤◌, List, [], ◌++◌, length, OnOk};
 ghost use Rattle.ledger.specs.Rolls.{kept};
 ghost use Rattle.lines.specs.Lines.{entry_line, note_line, lines_of};
 ghost use Rattle.sheet.specs.Reading.{longest};
-ghost use Rattle.terminal.specs.Pages.{Emptied, Ready, NextRun, GoneOn, Page};
+ghost use Rattle.terminal.specs.Pages.{Emptied, Ready, GoneOn, Page};
 
 use ledger::entries::Entry;
 use ledger::notes::Note;
 use ledger::rolls::Roll;
 use lines::printed::{Printed, print_all};
 use open_table::begun::{Begun, begin};
-use open_table::open_table::OpenTable;
 use refusals::{Cause, Refusal};
 use run::ended::Ended;
-use sheet::place::Place;
+use run::rolls::Rolls;
+use sheet::reader::Reader;
 use std::alloc::AllocError;
+
+// A sheet taken from any reader of bytes, and settled to any writer.
+pub mod streams;
+#[cfg(test)]
+mod tests;
 
 // The places of each roll; after an early stop both are printed, emptied and used again.
 const PLACES: usize = 256;
@@ -38,64 +43,39 @@ const NO_NOTE: Note = Note {
 };
 
 // Prints what a run wrote, entries before notes, and empties both rolls.
-fn print_run(
-    page: &mut Vec<u8>,
-    ledger: &mut Roll<'_, Entry>,
-    notes: &mut Roll<'_, Note>,
-) -> Result<(), AllocError>
-    ensures printed { OnOk result (page.new.items ≡ page.old.items ++ (lines_of entry_line (kept ledger.old) ++ lines_of note_line (kept notes.old))) }
-    ensures ledger { OnOk result (Emptied ledger.old ledger.new) }
-    ensures notes { OnOk result (Emptied notes.old notes.new) }
+fn print_run(page: &mut Vec<u8>, rolls: &mut Rolls<'_>) -> Result<(), AllocError>
+    ensures printed { OnOk result (page.new.items ≡ page.old.items ++ (lines_of entry_line (kept rolls.old.ledger) ++ lines_of note_line (kept rolls.old.notes))) }
+    ensures ledger { OnOk result (Emptied rolls.old.ledger rolls.new.ledger) }
+    ensures notes { OnOk result (Emptied rolls.old.notes rolls.new.notes) }
 {
-    print_all(page, ledger.records())?;
-    print_all(page, notes.records())?;
-    ledger.clear();
-    notes.clear();
+    print_all(page, rolls.ledger.records())?;
+    print_all(page, rolls.notes.records())?;
+    rolls.ledger.clear();
+    rolls.notes.clear();
     Ok(())
 }
 
-// Runs the sheet further with empty rolls, and prints what the run wrote.
-fn next_run(
-    page: &mut Vec<u8>,
-    sheet: &[u8],
-    table: &mut OpenTable,
-    place: &mut Place,
-    ledger: &mut Roll<'_, Entry>,
-    notes: &mut Roll<'_, Note>,
-) -> Result<Ended, AllocError>
-    requires short { length sheet.now ≤ longest }
-    requires ready { Ready ledger.old notes.old }
-    ensures { IfOk result (λ ended. NextRun sheet.now table.old place.old.at page.old.items ended table.new place.new.at page.new.items ledger.new notes.new) }
-{
-    match table.run(sheet, place, ledger, notes) {
-        Ok(ended) => {
-            print_run(page, ledger, notes)?;
-            Ok(ended)
-        }
-        Err(_) => Ok(Ended::SheetEnd),
-    }
-}
-
-// Goes on as long as runs stop early, and prints the closing line.
+// The sheet's length is asked as by a step of a run.
+// Runs the sheet further as long as runs stop early, with empty rolls each time, and prints each run and then the closing line.
 fn go_on(
     page: &mut Vec<u8>,
-    sheet: &[u8],
-    table: &mut OpenTable,
-    place: &mut Place,
-    first: Ended,
-    ledger: &mut Roll<'_, Entry>,
-    notes: &mut Roll<'_, Note>,
+    reader: &mut Reader<'_>,
+    begun: Begun,
+    rolls: &mut Rolls<'_>,
 ) -> Result<(), AllocError>
-    requires short { length sheet.now ≤ longest }
-    requires ready { Ready ledger.old notes.old }
-    ensures { OnOk result (GoneOn sheet.now table.old place.old.at first page.old.items page.new.items) }
+    requires short { length reader.old.sheet.now ≤ longest }
+    requires ready { Ready rolls.old.ledger rolls.old.notes }
+    ensures { OnOk result (GoneOn reader.old.sheet.now begun.table reader.old.place.at begun.ended page.old.items page.new.items) }
 {
-    let mut ended = first;
+    let Begun {
+        mut table,
+        mut ended,
+    } = begun;
     while let Ended::NoRoom = ended {
-        ended = next_run(page, sheet, table, place, ledger, notes)?;
+        ended = table.run(reader, rolls).unwrap();
+        print_run(page, rolls)?;
     }
-    table.closing().print(page)?;
-    Ok(())
+    table.closing().print(page)
 }
 
 // Settles a sheet from its first byte, printing to the end of a page.
@@ -103,28 +83,18 @@ pub fn settle(page: &mut Vec<u8>, sheet: &[u8]) -> Result<(), AllocError>
     ensures { OnOk result (Page sheet.now page.old.items page.new.items) }
 {
     let mut entries = [NO_ENTRY; PLACES];
-    let mut refusals = [NO_NOTE; PLACES];
-    let mut ledger = Roll::new(&mut entries);
-    let mut notes = Roll::new(&mut refusals);
-    let mut place = Place { at: 0 };
-    match begin(sheet, &mut place, &mut ledger, &mut notes) {
-        Begun::Nothing => Ok(()),
-        Begun::Refused(note) => {
-            note.print(page)?;
-            Ok(())
+    let mut notes = [NO_NOTE; PLACES];
+    let mut rolls = Rolls {
+        ledger: Roll::new(&mut entries),
+        notes: Roll::new(&mut notes),
+    };
+    let mut reader = Reader::new(sheet);
+    match begin(&mut reader, &mut rolls) {
+        Ok(Some(begun)) => {
+            print_run(page, &mut rolls)?;
+            go_on(page, &mut reader, begun, &mut rolls)
         }
-        Begun::Running(mut table, ended) => {
-            print_run(page, &mut ledger, &mut notes)?;
-            go_on(
-                page,
-                sheet,
-                &mut table,
-                &mut place,
-                ended,
-                &mut ledger,
-                &mut notes,
-            )?;
-            Ok(())
-        }
+        Ok(None) => Ok(()),
+        Err(note) => note.print(page),
     }
 }

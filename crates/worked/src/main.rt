@@ -2,18 +2,14 @@
 #![tactic(auto)]
 
 use std::fs::File;
-use std::io::{BufWriter, Read, Write};
+use std::io::{BufWriter, Write};
 use std::{env, io};
-use terminal::settle;
+use terminal::streams::{read_sheet, settle_to};
 
 fn settle_file(rt: &HostRuntime, out: &mut BufWriter<io::Stdout>, name: &str) -> io::Result<()> {
-    let mut sheet = Vec::new(rt.alloc());
-    // one byte more than a sheet may have, so that a longer one is seen to be longer
-    let _ = File::open(rt, name)?.take(65_537).read_to_end(&mut sheet)?;
+    let sheet = read_sheet(rt.alloc(), File::open(rt, name)?)?;
     writeln!(out, "== {name}")?;
-    let mut page = Vec::new(rt.alloc());
-    settle(&mut page, &sheet)?;
-    out.write_all(page.as_slice())
+    settle_to(rt.alloc(), out, &sheet)
 }
 
 fn main(rt: HostRuntime) -> io::Result<()> {

@@ -10,19 +10,9 @@ impl<R: NamesSeat + Drop> Roll<'_, R> {
     pub fn count_of(&self, seat: u8) -> usize
         ensures { result ≡ count_of R.seat_of seat (kept self.now) }
     {
-        count_in(self.records(), seat)
+        self.records()
+            .iter()
+            .filter(|record| record.seat() == seat)
+            .count()
     }
-}
-
-// How many of these records name this seat.
-fn count_in<R: NamesSeat>(records: &[R], seat: u8) -> usize
-    ensures { result ≡ count_of R.seat_of seat records.now }
-{
-    let mut count: usize = 0;
-    for record in records {
-        if record.seat() == seat {
-            count += 1;
-        }
-    }
-    count
 }

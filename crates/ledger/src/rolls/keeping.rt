@@ -1,6 +1,6 @@
 // Keeping records in a roll. Storing demands that a record names a seat, and that one which is written over may be let go.
-ghost use Rattle.std.specs.Prelude.{◌≡◌, ℕ, ◌+◌, ◌<◌, List, [], ◌∷◌, ◌++◌, length, slice_set};
-ghost use Rattle.ledger.specs.Rolls.{lent, slice_of, kept, places, free, kept_with, lent_with, keep_answer};
+ghost use Rattle.std.specs.Prelude.{◌≡◌, ℕ, ◌<◌, [], ◌∷◌, length};
+ghost use Rattle.ledger.specs.Rolls.{lent, slice_of, kept, places, free, kept_with, lent_with, keep_answer, Written};
 
 use crate::rolls::Roll;
 use crate::seated::NamesSeat;
@@ -21,7 +21,7 @@ impl<R: NamesSeat + Drop> Roll<'_, R> {
     pub fn records(&self) -> &[R]
         ensures { result.now ≡ kept self.now }
     {
-        &self.slots[0..self.len]
+        &self.slots[..self.len]
     }
 
     // How many more records find a place.
@@ -38,35 +38,14 @@ impl<R: NamesSeat + Drop> Roll<'_, R> {
         ensures lent { lent self.new ≡ lent_with self.old «record» }
         ensures places { places self.new ≡ places self.old }
         ensures slice { slice_of self.new ≡ slice_of self.old }
+        ensures written { 0 < free self.old → Written self.old self.new («record» ∷ []) }
     {
         if self.free() == 0 {
             return Err(Refusal::new(Cause::NoPlaceFree, 0));
         }
-        self.add(record);
+        self.slots[self.len] = record;
+        self.len += 1;
         Ok(())
-    }
-
-    // Keeps a record after the others, for a caller that has seen that a place is free.
-    fn add(&mut self, record: R)
-        requires room { 0 < free self.old }
-        ensures kept { kept self.new ≡ kept self.old ++ «record» ∷ [] }
-        ensures lent { lent self.new ≡ slice_set (lent self.old) (length (kept self.old)) «record» }
-        ensures places { places self.new ≡ places self.old }
-        ensures slice { slice_of self.new ≡ slice_of self.old }
-    {
-        self.write_next(record);
-    }
-
-    // Writes a record to the place after the last kept one, and counts it as kept.
-    fn write_next(&mut self, record: R)
-        requires { self.old.len < places self.old }
-        ensures lent { lent self.new ≡ slice_set (lent self.old) self.old.len «record» }
-        ensures len { self.new.len ≡ self.old.len + 1 }
-        ensures slice { slice_of self.new ≡ slice_of self.old }
-    {
-        let at = self.len;
-        self.slots[at] = record;
-        self.len = at + 1;
     }
 
     // Empties the roll; the places stay as they are.

@@ -7,12 +7,12 @@ use super::OpenTable;
 use commands::{Command, Conditions};
 use games::any_game::AnyGame;
 use ledger::entries::Entry;
-use ledger::notes::Note;
 use ledger::rolls::Roll;
 use refusals::{Cause, Refusal};
 use run::ended::Ended;
+use run::rolls::Rolls;
 use run::running;
-use sheet::place::Place;
+use sheet::reader::Reader;
 use table::holdings::{LIMIT, Table};
 
 impl OpenTable {
@@ -23,13 +23,9 @@ impl OpenTable {
         if tray > LIMIT {
             return Err(Refusal::new(Cause::TotalTooLarge, 0));
         }
-        match AnyGame::new(conditions.game, conditions.cap, conditions.odds) {
-            Ok(game) => match Table::open(game, conditions.minimum, conditions.maximum, tray) {
-                Ok(table) => Ok(OpenTable { table }),
-                Err(refusal) => Err(refusal),
-            },
-            Err(refusal) => Err(refusal),
-        }
+        let game = AnyGame::new(conditions.game, conditions.cap, conditions.odds)?;
+        let table = Table::open(game, conditions.minimum, conditions.maximum, tray)?;
+        Ok(OpenTable { table })
     }
 
     // Performs one command.
@@ -44,15 +40,10 @@ impl OpenTable {
     }
 
     // Runs a sheet from a place on, and answers how the run ended.
-    pub fn run(
-        &mut self,
-        sheet: &[u8],
-        place: &mut Place,
-        ledger: &mut Roll<'_, Entry>,
-        notes: &mut Roll<'_, Note>,
-    ) -> Result<Ended, Refusal>
-        ensures { SheetRun self.old sheet.now place.old.at ledger.old notes.old result self.new place.new.at ledger.new notes.new }
+    pub fn run(&mut self, reader: &mut Reader<'_>, rolls: &mut Rolls<'_>) -> Result<Ended, Refusal>
+        ensures run { SheetRun self.old reader.old.sheet.now reader.old.place.at rolls.old.ledger rolls.old.notes result self.new reader.new.place.at rolls.new.ledger rolls.new.notes }
+        ensures sheet { reader.new.sheet ≡ reader.old.sheet }
     {
-        running::run(&mut self.table, sheet, place, ledger, notes)
+        running::run(&mut self.table, reader, rolls)
     }
 }

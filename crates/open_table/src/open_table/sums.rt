@@ -7,10 +7,11 @@ ghost use Rattle.open_table.specs.Sums.{in_part, closing_of};
 ghost use Rattle.open_table.specs.Tables.{books_at};
 
 use super::OpenTable;
-use crate::part::{Part, View, view_of};
+use crate::part::{Part, View};
 use ledger::closings::Closing;
 use ledger::sums::sum;
 use refusals::Refusal;
+use std::array;
 
 impl OpenTable {
     // The view of one seat, counted from 0.
@@ -18,7 +19,7 @@ impl OpenTable {
         requires { k < 7 }
         ensures { result.amount ≡ pos (in_part part (seat_at (books_at self.now) k)) }
     {
-        view_of(&self.table.books().seats[k], part)
+        View::new(&self.table.books().seats[k], part)
     }
 
     // The sum of all seats by a part of their chips. No open table holds so much that it is refused.
@@ -26,25 +27,16 @@ impl OpenTable {
         ensures summed { result ≡ summed (λ s. pos (in_part part s)) (books_at self.now).seats }
         ensures exact { result ≡ Ok (pos (sum_by (in_part part) (books_at self.now).seats)) }
     {
-        sum(&[
-            self.view_at(0, part),
-            self.view_at(1, part),
-            self.view_at(2, part),
-            self.view_at(3, part),
-            self.view_at(4, part),
-            self.view_at(5, part),
-            self.view_at(6, part),
-        ])
+        // By place: what a closure over the seats asks of each of them was not found.
+        let views: [View; 7] = array::from_fn(|k| self.view_at(k, part));
+        sum(&views)
     }
 
     // The same as a number of chips.
     fn chips_in(&self, part: Part) -> u64
         ensures { result ≡ sum_by (in_part part) (books_at self.now).seats }
     {
-        match self.sum_of_seats(part) {
-            Ok(chips) => chips as u64,
-            Err(_) => 0,
-        }
+        self.sum_of_seats(part).unwrap() as u64
     }
 
     // Tray, racks and spaces; together they are the total.

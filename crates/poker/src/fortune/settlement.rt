@@ -1,26 +1,22 @@
 // What a hand of Fortune brings against the bank's, and the ceiling of a seat.
 ghost use Rattle.std.specs.Prelude.{◌≡◌, ◌^◌, ◌<◌, sum};
 ghost use Rattle.poker.specs.Posting.{largest};
-ghost use Rattle.poker.specs.Fortune.{pair_or_better, fortune_opens, fortune_outcome, bonus_odds, bonus, posted_odds, pair_plus_return, fortune_spaces, fortune_ceiling, rules_of};
+ghost use Rattle.poker.specs.Fortune.{fortune_opens, fortune_outcome, bonus_odds, bonus, posted_odds, pair_plus_return, fortune_spaces, fortune_ceiling, rules_of};
 ghost use Rattle.poker.specs.Laws.{HandsDecide};
 
 use crate::fortune::posted::Fortune;
 use crate::outcome::Outcome;
-use crate::payment::{if_raised, times, unless_left};
+use crate::payment::{if_raised, unless_left};
 use crate::ranks::one_between;
+use crate::stakes;
 use game::choice::Choice;
+use game::odds::{times, won};
 use grading::{ThreeClass, ThreeGrading};
 use refusals::Refusal;
 
 const QUEEN: u8 = 12;
 
 const ACE: u8 = 14;
-
-fn is_pair_or_better(class: ThreeClass) -> bool
-    ensures { result ≡ pair_or_better class }
-{
-    class.below() >= ThreeClass::Pair.below()
-}
 
 // How many times the ante a class receives besides.
 fn bonus_odds(class: ThreeClass) -> u16
@@ -40,7 +36,7 @@ fn bonus(class: Result<ThreeClass, Refusal>, ante: u32) -> u64
     ensures bound { result < 2 ^ 49 }
 {
     match class {
-        Ok(class) => times(ante as u64, bonus_odds(class)),
+        Ok(class) => times(ante, bonus_odds(class)),
         Err(_) => 0,
     }
 }
@@ -65,19 +61,15 @@ fn pair_plus_return(odds: [u16; 5], class: Result<ThreeClass, Refusal>, stake: u
     ensures bound { result < 2 ^ 50 }
 {
     match class {
-        Ok(class) if is_pair_or_better(class) => {
-            let stake = stake as u64;
-            stake + times(stake, posted_odds(odds, class))
-        }
+        Ok(class) if class >= ThreeClass::Pair => won(stake, posted_odds(odds, class)),
         _ => 0,
     }
 }
 
-fn largest(odds: [u16; 5]) -> u16
-    ensures { result ≡ largest odds }
+fn largest(odds: &[u16; 5]) -> u16
+    ensures { result ≡ largest odds.now }
 {
-    let [first, second, third, fourth, fifth] = odds;
-    first.max(second.max(third.max(fourth.max(fifth))))
+    odds.iter().fold(0, |most, &odds| most.max(odds))
 }
 
 impl<G: ThreeGrading> Fortune<G> {
@@ -86,7 +78,7 @@ impl<G: ThreeGrading> Fortune<G> {
         ensures { result ≡ fortune_opens bank.now }
     {
         match self.grading.class(bank) {
-            Ok(class) => is_pair_or_better(class) || one_between(bank, QUEEN, ACE),
+            Ok(class) => class >= ThreeClass::Pair || one_between(bank, QUEEN, ACE),
             Err(_) => false,
         }
     }
@@ -103,12 +95,15 @@ impl<G: ThreeGrading> Fortune<G> {
         ensures told { result ≡ sum (fortune_spaces self.now.odds stakes.now choice own.now bank.now) }
         ensures anywhere { HandsDecide 3 (rules_of self.now) stakes.now choice own.now bank.now result }
     {
-        let [ante, _, pair_plus, _, _] = *stakes;
+        let ante = stakes::ante(stakes);
         let class = self.grading.class(own);
         let outcome = self.outcome(own, bank);
         let ante_part = if_raised(choice, outcome.ante_return(ante) + bonus(class, ante));
         let raise_part = if_raised(choice, outcome.raise_return(ante as u64, ante as u64));
-        let pair_plus_part = unless_left(choice, pair_plus_return(self.odds, class, pair_plus));
+        let pair_plus_part = unless_left(
+            choice,
+            pair_plus_return(self.odds, class, stakes::pair_plus(stakes)),
+        );
         ante_part + raise_part + pair_plus_part
     }
 
@@ -116,7 +111,6 @@ impl<G: ThreeGrading> Fortune<G> {
     pub(crate) fn seat_ceiling(&self, stakes: &[u32; 5]) -> u64
         ensures { result ≡ fortune_ceiling self.now.odds stakes.now }
     {
-        let [ante, _, pair_plus, _, _] = *stakes;
-        7 * ante as u64 + times(pair_plus as u64, largest(self.odds))
+        7 * stakes::ante(stakes) as u64 + times(stakes::pair_plus(stakes), largest(&self.odds))
     }
 }

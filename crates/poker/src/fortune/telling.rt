@@ -2,15 +2,18 @@
 ghost use Rattle.poker.specs.Fortune.{rules_of};
 ghost use Rattle.poker.specs.FortuneFacts.{facts_of, raise_space_of};
 
-use crate::dealing::{bank_hand, dealing, seat_hand};
+use crate::dealing::HandSize;
 use crate::fortune::posted::Fortune;
+use crate::stakes;
 use game::choice::Choice;
-use game::dealing::Dealing;
+use game::deal::Deal;
+use game::dealing::Misdeal;
 use game::interface::Game;
-use game::taking::Taking;
+use game::taking::Barred;
 use grading::ThreeGrading;
 
-const CARDS: usize = 3;
+// Stud answers deals, chooses and returns in these words too: what they share is in HandSize and stakes, and a trait of the two would only pass these calls on.
+const HAND: HandSize = HandSize::Three;
 
 impl<G: ThreeGrading> Game for Fortune<G> {
     ghost rules = { rules_of };
@@ -19,42 +22,33 @@ impl<G: ThreeGrading> Game for Fortune<G> {
 
     ghost raise_space = { raise_space_of };
 
-    fn takes(&self, _stakes: &[u32; 5], space: u8) -> Taking {
+    fn takes(&self, _stakes: &[u32; 5], space: u8) -> Result<(), Barred> {
+        // A space is a number, since any byte may be asked about; the table asks about 1 to 5.
         match space {
-            1 | 3 => Taking::Takes,
-            _ => Taking::NoBets,
+            1 | 3 => Ok(()),
+            _ => Err(Barred::NoBets),
         }
     }
 
-    fn deals(&self, staking: &[bool; 7], cards: &[u8]) -> Dealing {
-        dealing(CARDS, staking, cards)
+    fn deals(&self, deal: &Deal<'_>) -> Result<(), Misdeal> {
+        HAND.dealing(deal)
     }
 
     fn chooses(&self, stakes: &[u32; 5]) -> bool {
-        let [ante, _, _, _, _] = *stakes;
-        ante > 0
+        stakes::ante(stakes) > 0
     }
 
     fn leaves(&self, stakes: &[u32; 5]) -> bool {
-        let [_, _, pair_plus, _, _] = *stakes;
-        pair_plus == 0
+        stakes::pair_plus(stakes) == 0
     }
 
     fn raise(&self, stakes: &[u32; 5]) -> u64 {
-        let [ante, _, _, _, _] = *stakes;
-        ante as u64
+        stakes::ante(stakes) as u64
     }
 
-    fn returns(
-        &self,
-        seat: usize,
-        stakes: &[u32; 5],
-        choice: Choice,
-        staking: &[bool; 7],
-        cards: &[u8],
-    ) -> u64 {
-        let own = seat_hand(CARDS, seat, staking, cards);
-        let bank = bank_hand(CARDS, staking, cards);
+    fn returns(&self, seat: usize, stakes: &[u32; 5], choice: Choice, deal: &Deal<'_>) -> u64 {
+        let own = HAND.seat_hand(seat, deal);
+        let bank = HAND.bank_hand(deal);
         self.hand_return(stakes, choice, own, bank)
     }
 

@@ -1,22 +1,17 @@
 // Opening Stud from the conditions of a table.
 ghost use Rattle.std.specs.Prelude.{◌≡◌};
-ghost use Rattle.poker.specs.Posting.{cap_postable, five_unused};
+ghost use Rattle.poker.specs.Posting.{cap_postable};
 ghost use Rattle.poker.specs.StudOpening.{Opened};
 
 use crate::stud::posted::Stud;
-use refusals::{Cause, Refusal};
+use game::odds::are_unused;
+use game::opening::admit;
+use refusals::Refusal;
 
 fn is_postable(cap: u64) -> bool
     ensures { result ≡ cap_postable cap }
 {
-    cap >= 1 && cap <= 1_000_000_000
-}
-
-fn are_unused(odds: [u16; 5]) -> bool
-    ensures { result ≡ five_unused odds }
-{
-    let [first, second, third, fourth, fifth] = odds;
-    first == 0 && second == 0 && third == 0 && fourth == 0 && fifth == 0
+    (1..=1_000_000_000).contains(&cap)
 }
 
 impl Stud {
@@ -24,9 +19,7 @@ impl Stud {
     pub fn open(cap: u64, odds: [u16; 5]) -> Result<Stud, Refusal>
         ensures { Opened cap odds result }
     {
-        if !is_postable(cap) || !are_unused(odds) {
-            return Err(Refusal::new(Cause::BadConditions, 0));
-        }
+        admit(is_postable(cap) && are_unused(&odds))?;
         Ok(Stud { cap })
     }
 }

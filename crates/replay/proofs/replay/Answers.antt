@@ -1,11 +1,7 @@
 -- The history grows by each call, and leads to the table.
-use Rattle.std.proofs.Common.{sym, ◌∙◌, subst}
-use Rattle.table.specs.Soundness.{Sound}
+use Rattle.std.proofs.Common.{◌∙◌}
 use Rattle.replay.proofs.Leading.{played_more, played_all}
 use Rattle.replay.proofs.replay.Goals as goal
-
-pub perform_one-requires : goal.perform_one-requires
-perform_one-requires g c = subst (λ x. Sound (g.G.Game.rules x) c.loop-request.table.books) (sym c.loop-request.invariant.0) c.loop-request.invariant.1.sound
 
 pub loop-request-preserved : goal.loop-request-preserved
 loop-request-preserved g c = (

@@ -2,5 +2,5 @@
 use Rattle.games.proofs.Deals.{checked}
 use Rattle.games.proofs.checked.checked_deals.Goals as goal
 
-pub returns : goal.returns
-returns c = record { stands = checked c.parted_ways.ensures.stands; answers = c.parted_ways.ensures.answers }
+pub returns-clause-stands : goal.returns-clause-stands
+returns-clause-stands c = checked c.checked_deals-first.ensures.stands

@@ -1,5 +1,5 @@
 -- What is still to be added makes the total whole, and the total so far is no larger than its records allow.
-use Rattle.std.proofs.Common.{◌≡◌, ℕ, ◌*◌, drop, ℤ, pos, ◌+ℤ◌, neg_ℤ, ◌≤ℤ◌}
+use Rattle.std.proofs.Common.{◌≡◌, ◌*◌, drop, pos, ◌+ℤ◌, neg_ℤ, ◌≤ℤ◌}
 use Rattle.ledger.specs.Sums.{most_amount, all_within, total_of}
 use Rattle.ledger.proofs.sums.total.Given as goal
 

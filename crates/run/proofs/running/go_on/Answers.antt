@@ -1,34 +1,23 @@
 -- The run goes on from command to command, and each moves the place.
 use Rattle.std.proofs.Common.{refl, ◌∙◌}
-use Rattle.run.proofs.Going.{going_starts, step_asks, on_again, at_last, nearer}
+use Rattle.run.proofs.Going.{going_starts, on_again, at_last}
 use Rattle.run.proofs.running.go_on.Goals as goal
 
 pub loop-ended-init : goal.loop-ended-init
-loop-ended-init g c = (refl, going_starts _ _ c.requires.short _ _ _ _ c.requires.sound)
+loop-ended-init g c = record { game = refl; sheet = refl; going = going_starts _ _ c.requires _ _ _ _ c.args.table.now.sound }
 
-pub step-requires : goal.step-requires
-step-requires g c =
-    step_asks g.G.Game.rules c.args.table.now.game c.args.sheet.now c.requires.short c.args.table.now.books c.args.place.now.at c.args.ledger.now c.args.notes.now
-    c.loop-ended.table.game c.loop-ended.invariant.0 c.loop-ended.table.books c.loop-ended.place.at c.loop-ended.ledger c.loop-ended.notes
-    c.loop-ended.table.books c.loop-ended.place.at c.loop-ended.ledger c.loop-ended.notes c.loop-ended.invariant.1
-
-pub returns-in-Some : goal.returns-in-Some
-returns-in-Some g c = record {
-  ran = at_last g.G.Game.rules c.args.table.now.game c.args.sheet.now c.requires.short c.args.table.now.books c.args.place.now.at c.args.ledger.now c.args.notes.now
-      c.loop-ended.table.game c.loop-ended.invariant.0 c.loop-ended.table.books c.loop-ended.place.at c.loop-ended.ledger c.loop-ended.notes
-      c.step.new.table.books c.step.new.place.at c.step.new.ledger c.step.new.notes c.loop-ended.invariant.1 c.in-Some.ended c.in-Some.ensures.stepped;
-  game = c.in-Some.ensures.game ∙ c.loop-ended.invariant.0;
-}
-
-pub loop-ended-smaller : goal.loop-ended-smaller
-loop-ended-smaller g c =
-    nearer _ c.args.sheet.now c.requires.short c.loop-ended.table.books c.loop-ended.place.at c.loop-ended.ledger c.loop-ended.notes
-    c.step.new.table.books c.step.new.place.at c.step.new.ledger c.step.new.notes c.in_default.ensures.stepped
+pub returns-in-Some-clause-ran : goal.returns-in-Some-clause-ran
+returns-in-Some-clause-ran g c =
+    let i = c.loop-ended.invariant in
+    at_last g.G.Game.rules c.args.table.now.game c.args.reader.now.sheet c.requires c.args.table.now.books c.args.reader.now.place.at c.args.rolls.now.ledger c.args.rolls.now.notes _ i.game _ i.sheet
+    _ _ _ _ _ _ _ _ i.going c.in-Some.ended c.in-Some.ensures.stepped
 
 pub loop-ended-preserved : goal.loop-ended-preserved
-loop-ended-preserved g c = (
-  c.in_default.ensures.game ∙ c.loop-ended.invariant.0,
-  on_again g.G.Game.rules c.args.table.now.game c.args.sheet.now c.requires.short c.args.table.now.books c.args.place.now.at c.args.ledger.now c.args.notes.now
-      c.loop-ended.table.game c.loop-ended.invariant.0 c.loop-ended.table.books c.loop-ended.place.at c.loop-ended.ledger c.loop-ended.notes
-      c.step.new.table.books c.step.new.place.at c.step.new.ledger c.step.new.notes c.loop-ended.invariant.1 c.in_default.ensures.stepped,
-)
+loop-ended-preserved g c =
+    let i = c.loop-ended.invariant in
+    record {
+      game = c.in_default.ensures.game ∙ i.game;
+      sheet = c.in_default.ensures.sheet ∙ i.sheet;
+      going = on_again g.G.Game.rules c.args.table.now.game c.args.reader.now.sheet c.requires c.args.table.now.books c.args.reader.now.place.at c.args.rolls.now.ledger c.args.rolls.now.notes _ i.game _ i.sheet
+          _ _ _ _ _ _ _ _ i.going c.in_default.ensures.stepped;
+    }

@@ -1,56 +1,37 @@
--- The first byte is taken, then the operands; the place moves by the command's width.
-use Rattle.std.proofs.Common.{◌≡◌, ◌-◌, ◌≤◌, length, get_or, take, drop, Err, sym, refl, ap, ◌∙◌, subst, arith, ltb-false, ltb-true}
+-- The first byte is taken, then the operands.
+use Rattle.std.proofs.Common.{◌≡◌, ◌-◌, length, get_or, take, drop, sym, ap, ◌∙◌, subst, arith}
 use borrow.Author.Tests.{eqb-false}
-use Rattle.refusals.proofs.Causes.{none_holds}
+use Rattle.std.proofs.lemmas.Result.{err_from_is_err_and}
 use Rattle.commands.specs.Calls.{call_of}
+use Rattle.refusals.proofs.Causes.{none_holds}
 use Rattle.sheet.specs.Format.{width, width_of}
 use Rattle.sheet.specs.Reading.{faults, SameBytes}
-use Rattle.sheet.proofs.Places.{place_inside, behind_inside, read_of, read_none, refused_by, called_by}
+use Rattle.sheet.proofs.Places.{refused_at, called_at}
 use Rattle.sheet.proofs.ReadWritten.{same_bytes}
 use Rattle.sheet.proofs.Widths.{width_in}
 use Rattle.sheet.proofs.reading.advance.Goals as goal
 
-pub returns-in_default : goal.returns-in_default
-returns-in_default c = record {
-  answer = read_none c.args.sheet.now c.bytes_from.result.now c.args.place.now.at c.bytes_from.ensures (omega arith) (omega (arith, ltb-true));
-  place = refl;
-  bytes = tt;
-}
+pub returns-in_err-command-clause-answer : goal.returns-in_err-command-clause-answer
+returns-in_err-command-clause-answer c =
+    let p = err_from_is_err_and c.from_residual.result c.from_residual.ensures.1 in
+    rw (p.1, p.2) (refused_at c.args.sheet.now c.bytes_from.result.now c.args.place.now.at c.bytes_from.ensures (omega arith) c.in-len1-up.len_at_least c.in_err-command.field-0.0 c.in_err-command.ensures)
 
-pub overflow_add-place : goal.overflow_add-place
-overflow_add-place c =
-    let s = c.bytes_from.result.now in
-    let some : 1 ≤ length s = omega (arith, ltb-false) in
-    omega (arith, place_inside c.args.sheet.now s c.args.place.now.at c.bytes_from.ensures some)
+pub returns-clause-answer : goal.returns-clause-answer
+returns-clause-answer c =
+    called_at c.args.sheet.now c.bytes_from.result.now c.args.place.now.at c.bytes_from.ensures (omega arith) c.in-len1-up.len_at_least (call_of c.in_ok-command.command) c.in_ok-command.ensures.0 c.in_ok-command.ensures.1
 
-pub overflow_add-place-in-Ok : goal.overflow_add-place-in-Ok
-overflow_add-place-in-Ok c =
+pub returns-clause-place : goal.returns-clause-place
+returns-clause-place c =
     let s = c.bytes_from.result.now in
-    let some : 1 ≤ length s = omega (arith, ltb-false) in
-    omega (arith, behind_inside c.args.sheet.now s c.args.place.now.at c.bytes_from.ensures some)
-
-pub returns-in-Err : goal.returns-in-Err
-returns-in-Err c =
-    let s = c.bytes_from.result.now in
-    let some : 1 ≤ length s = omega (arith, ltb-false) in
-    record {
-      answer = ap Err c.new-in-Err.ensures ∙ refused_by (get_or s 0 0) (take (length s - 1) (drop 1 s)) c.in-Err.cause c.in-Err.ensures ∙ read_of c.args.sheet.now s c.args.place.now.at c.bytes_from.ensures (omega arith) some;
-      place = tt;
-      bytes = tt;
-    }
-
-pub returns-in-Ok : goal.returns-in-Ok
-returns-in-Ok c =
-    let s = c.bytes_from.result.now in
-    let some : 1 ≤ length s = omega (arith, ltb-false) in
     let first = get_or s 0 0 in
     let bytes = take (length s - 1) (drop 1 s) in
-    let taken = c.in-Ok.ensures in
+    let taken = c.in_ok-command.ensures in
     let known = (none_holds (faults first bytes) taken.0).1.0 in
-    let wide : width_of (call_of c.in-Ok.command) ≡ width first = ap width_of taken.1 ∙ width_in first bytes known in
-    let read = called_by first bytes (call_of c.in-Ok.command) taken.0 taken.1 ∙ read_of c.args.sheet.now s c.args.place.now.at c.bytes_from.ensures (omega arith) some in
-    record {
-      answer = read;
-      place = omega (arith, wide, taken.2, eqb-false (width first) 0 known);
-      bytes = subst (SameBytes c.args.sheet.now c.args.place.now.at) (sym read) (same_bytes c.args.sheet.now c.args.place.now.at (λ i. omega (arith, c.type_inv.sheet i)));
-    }
+    let wide : width_of (call_of c.in_ok-command.command) ≡ width first = ap width_of taken.1 ∙ width_in first bytes known in
+    omega (arith, wide, taken.2, eqb-false (width first) 0 known)
+
+pub returns-clause-bytes : goal.returns-clause-bytes
+returns-clause-bytes c =
+    let sheet = c.args.sheet.now in
+    let p = c.args.place.now.at in
+    subst (SameBytes sheet p) (sym (returns-clause-answer c)) (same_bytes sheet p (λ i. omega (arith, c.type_inv.sheet i)))

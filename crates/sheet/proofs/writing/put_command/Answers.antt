@@ -1,19 +1,11 @@
--- The bytes of an Open, which are many.
-use Rattle.std.proofs.Common.{length, sym, refl, ap, ◌∙◌, subst}
-use Rattle.commands.specs.Calls.{call_of, Open}
-use Rattle.sheet.specs.Format.{bytes_of, FitsFormat}
-use Rattle.sheet.specs.Writing.{buffer_after, write_at}
-use Rattle.sheet.proofs.Puts.{put_is}
+-- The numbers of an Open are each written in their bytes.
+use Rattle.std.proofs.Common.{[], ◌∷◌, ◌++◌, ap, ◌∙◌}
+use Rattle.commands.specs.Calls.{call_of}
+use Rattle.sheet.specs.Writing.{buffer_after}
 use Rattle.sheet.proofs.writing.put_command.Goals as goal
 
-pub returns-in-Open : goal.returns-in-Open
-returns-in-Open c =
-    let k = Open c.in-Open.conditions c.in-Open.tray in
-    let command = ap call_of c.in-Open.is in
-    let bytes = c.conditions_and_tray.ensures.bytes in
-    let answer = put_is c.args.out.now c.args.at k c.put.result _ (ap length bytes) refl c.put.ensures.answer in
-    record {
-      answer = answer ∙ ap (write_at c.args.out.now c.args.at) (sym command);
-      buffer = c.put.ensures.buffer ∙ ap (buffer_after c.put.result c.args.out.now c.args.at) (bytes ∙ sym (ap bytes_of command));
-      fits = subst FitsFormat (sym command) c.conditions_and_tray.ensures.fits;
-    }
+pub returns-in-Open-clause-buffer : goal.returns-in-Open-clause-buffer
+returns-in-Open-clause-buffer c =
+    rw (ap call_of c.in-Open.is) (c.put.ensures.buffer ∙ (λ i. buffer_after c.put.result c.args.out.now c.args.at (84 ∷ c.in-Open.conditions.game ∷ (c.to_be_bytes.ensures i ++ (c.to_be_bytes-in-Open.ensures i ++ (c.to_be_bytes-in-Open-2.ensures i
+    ++ (c.to_be_bytes-in-Open-3.ensures i ++ (c.to_be_bytes-in-Open-4.ensures i ++ (c.to_be_bytes-in-Open-5.ensures i ++ (c.to_be_bytes-in-Open-6.ensures i ++ (c.to_be_bytes-in-Open-7.ensures i
+    ++ (c.to_be_bytes-in-Open-8.ensures i ++ []))))))))))))

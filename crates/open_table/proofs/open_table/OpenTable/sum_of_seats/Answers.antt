@@ -1,13 +1,14 @@
--- The seven views have the sum of the seats.
-use Rattle.std.proofs.Common.{◌∙◌}
-use Rattle.table.proofs.Single.{sound_had}
-use Rattle.open_table.proofs.Summing.{views_summed, seats_exact, seats_few}
+-- The views have the sum of the seats, which no open table's holdings make too large.
+use Rattle.std.proofs.Common.{◌≡◌, ◌∙◌, pos, arith}
+use Rattle.std.proofs.lemmas.Grind.{common_steps}
+use Rattle.ledger.specs.Sums.{summed}
+use Rattle.open_table.specs.Sums.{in_part}
+use Rattle.open_table.specs.Tables.{books_at}
+use Rattle.open_table.proofs.Summing.{seats_exact, seats_few}
 use Rattle.open_table.proofs.open_table.OpenTable.sum_of_seats.Goals as goal
 
-pub returns : goal.returns
-returns c =
-    let s = sound_had _ _ c.args.self.now.sound in
-    let few = seats_few _ _ s in
-    let told = c.sum.ensures ∙ views_summed c.args.part _ s.seven few _ _ _ _ _ _ _
-    c.view_at.ensures c.view_at-2.ensures c.view_at-3.ensures c.view_at-4.ensures c.view_at-5.ensures c.view_at-6.ensures c.view_at-7.ensures in
-    record { summed = told; exact = told ∙ seats_exact c.args.part _ s.seven few }
+pub returns-clause-exact : goal.returns-clause-exact
+returns-clause-exact c =
+    let s = c.args.self.now.table.sound in
+    let told : c.sum.result ≡ summed (λ z. pos (in_part c.args.part z)) (books_at c.args.self.now).seats = grind (arith, common_steps) in
+    told ∙ seats_exact c.args.part _ s.seven (seats_few _ _ s)

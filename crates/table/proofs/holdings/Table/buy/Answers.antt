@@ -1,7 +1,10 @@
--- A rack is within the total, and the total stays within its limit.
-use Rattle.std.proofs.Common.{◌-◌, arith}
-use Rattle.table.proofs.Totals.{chips_within}
+-- The rack is filled, and the table stays sound.
+use Rattle.std.proofs.Common.{Ok, rules}
+use Rattle.commands.specs.Calls.{Buy}
+use Rattle.table.proofs.Accepted.{did_sound}
 use Rattle.table.proofs.holdings.Table.buy.Goals as goal
 
-pub overflow_add-s : goal.overflow_add-s
-overflow_add-s g c = omega (arith, chips_within c.args.self.now.books (c.args.seat - 1), c.requires.within)
+pub invariant_of-self : goal.invariant_of-self
+invariant_of-self g c =
+    let t = c.args.self.now in
+    record { sound = did_sound _ (g.met.G.Game.facts t.game) t.books _ (Buy c.args.seat c.args.amount) 0 (Ok tt) t.sound (search rules) }

@@ -1,2 +1,0 @@
-mod Cut
-mod Between

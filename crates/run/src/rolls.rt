@@ -1,0 +1,38 @@
+// The two rolls that a run writes to: the entries of the ledger, and the notes of what was refused.
+ghost use Rattle.std.specs.Prelude.{◌≡◌, ℕ, ◌<◌, [], ◌∷◌};
+ghost use Rattle.ledger.specs.Rolls.{free, Written};
+ghost use Rattle.run.specs.Meaning.{note_of};
+ghost use Rattle.run.specs.Runs.{no_room};
+
+use ledger::entries::Entry;
+use ledger::notes::Note;
+use ledger::rolls::Roll;
+use refusals::Refusal;
+
+// A settlement writes at most so many entries: one a seat.
+const MOST_ENTRIES: usize = 7;
+
+// Reader and rolls are not one struct: the first command reads before anything is kept, and printing keeps nothing of what is read.
+#[derive(Drop)]
+pub struct Rolls<'a> {
+    pub ledger: Roll<'a, Entry>,
+    pub notes: Roll<'a, Note>,
+}
+
+impl Rolls<'_> {
+    // Whether they lack room for whatever one command may write.
+    pub(crate) fn lack_room(&self) -> bool
+        ensures { result ≡ no_room (free self.now.ledger) (free self.now.notes) }
+    {
+        self.ledger.free() < MOST_ENTRIES || self.notes.free() == 0
+    }
+
+    // Notes a refusal at a place of the sheet, where there is known to be room for it.
+    pub(crate) fn note(&mut self, place: usize, refusal: Refusal)
+        requires room { 0 < free self.old.notes }
+        ensures notes { Written self.old.notes self.new.notes (note_of place refusal ∷ []) }
+        ensures ledger { self.new.ledger ≡ self.old.ledger }
+    {
+        let _ = self.notes.keep(Note { place, refusal });
+    }
+}
