@@ -104,7 +104,7 @@ show("1 a number where there is none", lines_like(r"//.*(\b0 (where|in places|fo
 show("1 a number for a kind", lines_like(r"\.number\(\) *[=!<>]=|^ +(0x[0-9A-F]+|\d+)( \| \d+)* (if .*)?=> "))
 show("2 functions alike", twins())
 show("3 loops", lines_like(r"^ *(for [\w, ()]+ in |while |loop \{)"))
-show("3 a list written out place by place", lines_like(r"^ *\[?(&?self\.)?\w+(\.\w+)*[\[(]6[\],)]|^ +\+ self\.stakes\[4\]|let \[\w+(, \w+){4,}\]"))
+show("3 a list written out place by place", lines_like(r"\w[\[(][46][\],)]|let \[\w+(, \w+){4,}\]|let \(fifth, "))
 show("4 impls by hand", lines_like(r"^ *impl.* (PartialEq|Eq|Ord|PartialOrd|Clone|Copy|From|TryFrom|fmt::Display|Debug)(<.*>)? for"))
 show("4 conversions, words and comparisons", lines_like(r"fn (eq|cmp|clone|from|try_from|of_numbers|of|is|word|name|number|compare_parts|cause|outcome|meaning)\("))
 show("4 let x = self.x before printing", lines_like(r"^ *let (\w+) = self\.\1(\(\))?;|^ *let (\w+) = \w+\.word\(\);"))
