@@ -1,7 +1,7 @@
 // What is printed as a line, and many of its kind one after another.
-ghost use Rattle.std.specs.Prelude.{◌≡◌, ℕ, List, ◌++◌, Some, refl, is_ok, if◌then◌else◌, OnOk};
+ghost use Rattle.std.specs.Prelude.{◌≡◌, ℕ, List, ◌++◌, Some, refl, is_ok, if◌then◌else◌, OnOk, OnErr};
 ghost use Rattle.std.specs.Fmt.{with_newline};
-ghost use Rattle.lines.specs.Lines.{entry_line, note_line, closing_line, lines_of};
+ghost use Rattle.lines.specs.Lines.{printed_entry, printed_note, printed_closing, lines_of, InPart};
 
 use ledger::closings::Closing;
 use ledger::entries::Entry;
@@ -30,26 +30,27 @@ pub trait Printed: fmt::Display {
 }
 
 impl Printed for Entry {
-    ghost line_of = { entry_line };
+    ghost line_of = { printed_entry };
 
     ghost displayed = { λ _. refl };
 }
 
 impl Printed for Note {
-    ghost line_of = { note_line };
+    ghost line_of = { printed_note };
 
     ghost displayed = { λ _. refl };
 }
 
 impl Printed for Closing {
-    ghost line_of = { closing_line };
+    ghost line_of = { printed_closing };
 
     ghost displayed = { λ _. refl };
 }
 
-// Prints a line for each record, in order.
+// Prints a line for each record, in order; where memory is wanting the first few are printed, each whole.
 pub fn print_all<R: Printed>(page: &mut Vec<u8>, records: &[R]) -> Result<(), AllocError>
-    ensures { OnOk result (page.new.items ≡ page.old.items ++ lines_of R.line_of records.now) }
+    ensures lines { OnOk result (page.new.items ≡ page.old.items ++ lines_of R.line_of records.now) }
+    ensures part { OnErr result (InPart R.line_of records.now page.old.items page.new.items) }
 {
     for record in records {
         record.print(page)?;

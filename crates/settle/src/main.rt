@@ -1,36 +1,13 @@
-// Reads a sheet of commands from standard input and says what it read.
+// Settles the sheet on standard input and prints its ledger.
 #![tactic(auto)]
 
-use ledger::notes::Note;
-use sheet::reader::Reader;
-use sheet::reading::LONGEST;
 use std::io;
-use std::io::{BufWriter, Read, Write};
-
-// Prints each command with its place, and at last why none could be read, if that is how it ends.
-fn print_commands(out: &mut BufWriter<io::Stdout>, reader: &mut Reader<'_>) -> io::Result<()> {
-    loop {
-        let at = reader.place.at;
-        match reader.read() {
-            Ok(Some(command)) => {
-                let name = command.name();
-                writeln!(out, "{at} {name}")?;
-            }
-            Ok(None) => return Ok(()),
-            Err(refusal) => {
-                let note = Note { place: at, refusal };
-                return writeln!(out, "{note}");
-            }
-        }
-    }
-}
+use std::io::{BufWriter, Write};
+use terminal::streams::{read_sheet, settle_to};
 
 fn main(rt: HostRuntime) -> io::Result<()> {
-    let mut sheet = Vec::new(rt.alloc());
-    // One byte more than a sheet may have, so that a longer one is seen to be longer; read here, as this program stands on the sheet alone.
-    let most = LONGEST as u64 + 1;
-    let _ = rt.stdin().take(most).read_to_end(&mut sheet)?;
+    let sheet = read_sheet(rt.alloc(), rt.stdin())?;
     let mut out = BufWriter::new(rt.alloc(), rt.stdout())?;
-    print_commands(&mut out, &mut Reader::new(&sheet))?;
+    settle_to(rt.alloc(), &mut out, &sheet)?;
     out.flush()
 }

@@ -18,7 +18,7 @@ too_long sheet long = rw (lt-ltb longest (length sheet) long) refl
 both_long : (sheet sheet' : List ℕ) → longest < length sheet → longest < length sheet' → (text : List ℕ) → PrintedOf sheet text → PrintedOf sheet' text
 both_long sheet sheet' a b _ (empty e) = empty (too_long sheet' b ∙ sym (too_long sheet a) ∙ e)
 both_long sheet sheet' a b _ (refused e is) = refused e (is ∙ ap first_refusal (too_long sheet a ∙ sym (too_long sheet' b)))
-both_long sheet sheet' a b _ (played c tray game text reads first opens prints) = let h = sym reads ∙ too_long sheet a in cc
+both_long sheet sheet' a b _ (played c tray game text reads first opens prints promised) = let h = sym reads ∙ too_long sheet a in cc
 
 cut_prints : (bytes text : List ℕ) → PrintedOf (take (longest + 1) bytes) text → PrintedOf bytes text
 cut_prints bytes text h =

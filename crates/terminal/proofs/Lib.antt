@@ -1,2 +1,3 @@
+pub mod AllCalls
 pub mod Going
 pub mod Cutting

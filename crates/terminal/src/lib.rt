@@ -3,9 +3,9 @@
 
 ghost use Rattle.std.specs.Prelude.{◌≡◌, ℕ, ◌≤◌, List, [], ◌++◌, length, OnOk};
 ghost use Rattle.ledger.specs.Rolls.{kept};
-ghost use Rattle.lines.specs.Lines.{entry_line, note_line, lines_of};
+ghost use Rattle.lines.specs.Lines.{printed_entry, printed_note, lines_of};
 ghost use Rattle.sheet.specs.Reading.{longest};
-ghost use Rattle.terminal.specs.Pages.{Emptied, Ready, GoneOn, Page};
+ghost use Rattle.terminal.specs.Pages.{Emptied, Ready, Grown, GoneOn, Page};
 
 use ledger::entries::Entry;
 use ledger::notes::Note;
@@ -44,9 +44,10 @@ const NO_NOTE: Note = Note {
 
 // Prints what a run wrote, entries before notes, and empties both rolls.
 fn print_run(page: &mut Vec<u8>, rolls: &mut Rolls<'_>) -> Result<(), AllocError>
-    ensures printed { OnOk result (page.new.items ≡ page.old.items ++ (lines_of entry_line (kept rolls.old.ledger) ++ lines_of note_line (kept rolls.old.notes))) }
+    ensures printed { OnOk result (page.new.items ≡ page.old.items ++ (lines_of printed_entry (kept rolls.old.ledger) ++ lines_of printed_note (kept rolls.old.notes))) }
     ensures ledger { OnOk result (Emptied rolls.old.ledger rolls.new.ledger) }
     ensures notes { OnOk result (Emptied rolls.old.notes rolls.new.notes) }
+    ensures grown { Grown page.old.items page.new.items }
 {
     print_all(page, rolls.ledger.records())?;
     print_all(page, rolls.notes.records())?;
@@ -55,8 +56,8 @@ fn print_run(page: &mut Vec<u8>, rolls: &mut Rolls<'_>) -> Result<(), AllocError
     Ok(())
 }
 
-// The sheet's length is asked as by a step of a run.
 // Runs the sheet further as long as runs stop early, with empty rolls each time, and prints each run and then the closing line.
+// The sheet's length is asked as by a step of a run.
 fn go_on(
     page: &mut Vec<u8>,
     reader: &mut Reader<'_>,
@@ -65,7 +66,8 @@ fn go_on(
 ) -> Result<(), AllocError>
     requires short { length reader.old.sheet.now ≤ longest }
     requires ready { Ready rolls.old.ledger rolls.old.notes }
-    ensures { OnOk result (GoneOn reader.old.sheet.now begun.table reader.old.place.at begun.ended page.old.items page.new.items) }
+    ensures printed { OnOk result (GoneOn reader.old.sheet.now begun.table reader.old.place.at begun.ended page.old.items page.new.items) }
+    ensures grown { Grown page.old.items page.new.items }
 {
     let Begun {
         mut table,
@@ -78,9 +80,10 @@ fn go_on(
     table.closing().print(page)
 }
 
-// Settles a sheet from its first byte, printing to the end of a page.
+// Settles a sheet from its first byte, printing to the end of a page; where memory runs out, part of it may be printed.
 pub fn settle(page: &mut Vec<u8>, sheet: &[u8]) -> Result<(), AllocError>
-    ensures { OnOk result (Page sheet.now page.old.items page.new.items) }
+    ensures printed { OnOk result (Page sheet.now page.old.items page.new.items) }
+    ensures grown { Grown page.old.items page.new.items }
 {
     let mut entries = [NO_ENTRY; PLACES];
     let mut notes = [NO_NOTE; PLACES];
