@@ -53,9 +53,9 @@ abbrev pub unchosen : Seat → Seat
 unchosen s = record { rack = s.rack; stakes = s.stakes; raised = s.raised; choice = Open }
 
 -- a seat whose spaces are empty, with so much in its rack, and no choice made
-abbrev pub cleared : Seat → ℕ → Seat
-cleared s n = record { rack = n; stakes = empty; raised = 0; choice = Open }
+abbrev pub cleared : ℕ → Seat
+cleared n = record { rack = n; stakes = empty; raised = 0; choice = Open }
 
 -- the books after the tray took what a seat laid and paid it so much, which ends its choice
 abbrev pub served : Books → ℕ → ℕ → Books
-served b k n = let s = seat_at b k in with_tray (with_seat b k (cleared s (s.rack + n))) (b.tray + laid s - n)
+served b k n = let s = seat_at b k in with_tray (with_seat b k (cleared (s.rack + n))) (b.tray + laid s - n)

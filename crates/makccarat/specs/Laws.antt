@@ -14,10 +14,10 @@ pub record OneFront (w : Way) (row : List ℕ) (n : ℕ) : Type 0 where
   pub lawful : dealing w (take n row) ≡ Ok tt
   pub alone : (m : ℕ) → m ≤ length row → dealing w (take m row) ≡ Ok tt → m ≡ n
 
--- of a row of at least six cards one front part is the deal; a row that is shorter, or not all cards, is not asked
+-- of a row of at least six cards one front part is the deal; of a row that is shorter, or not all cards, none is told
 abbrev pub Fronted : Way → List ℕ → Option ℕ → Type 0
 Fronted w row None = 6 ≤ length row → are_cards row ≢ true
-Fronted w row (Some n) = OneFront w row n
+Fronted w row (Some n) = (6 ≤ length row) × (are_cards row ≡ true) × OneFront w row n
 
 -- every round with these two final totals, in either way and from whatever cards, has this winner
 abbrev pub Decided : Way → List ℕ → Option Side → Type 0

@@ -1,20 +1,19 @@
 -- Fortune keeps what every game promises.
-use Rattle.std.specs.Prelude.{◌≡◌, ℕ, ◌+◌, ◌*◌, ◌≤◌, Bool, true, ◌&&◌, List, length, Ok, Err, sum, Result, slice_index, refl}
+use Rattle.std.specs.Prelude.{◌≡◌, ℕ, ◌+◌, ◌*◌, ◌≤◌, true, List, length, Ok, Err, sum, Result, refl}
 use Rattle.std.proofs.Common.{arith}
 use Rattle.std.proofs.lemmas.Nat.{mul-le}
-use Rattle.std.proofs.lemmas.Bool.{and_parts}
 use Rattle.refusals.specs.declared.Refusal.{Refusal}
 use Rattle.grading.specs.Grading.{three_class}
 use Rattle.grading.specs.declared.three_classes.ThreeClass.{ThreeClass}
 use Rattle.grading.specs.declared.three_classes.ThreeClass.TheVariants.{StraightFlush, Three, Straight, Flush, Pair, OddCards}
-use Rattle.game.specs.Odds.{postable}
 use Rattle.game.specs.Rules.{Facts, RaiseSpace, added}
 use Rattle.game.specs.declared.choice.Choice.{Choice}
 use Rattle.game.specs.declared.choice.Choice.TheVariants.{Open, Raised, Left}
-use Rattle.game.proofs.Postable.{postable_le}
+use Rattle.game.proofs.Postable.{postable_at}
 use Rattle.game.proofs.Stakes.{sum_by_places, no_stake_at}
 use Rattle.poker.specs.declared.fortune.posted.Fortune.{Fortune}
-use Rattle.poker.specs.Posting.{five_postable, largest}
+use Rattle.game.specs.Odds.{all_postable}
+use Rattle.poker.specs.Posting.{largest}
 use Rattle.poker.specs.Stakes.{ante_stake, pair_plus_stake}
 use Rattle.poker.specs.Dealing.{seat_hand, bank_hand}
 use Rattle.poker.specs.Fortune.{fortune_outcome, bonus, posted_odds, pair_plus_return, fortune_spaces, fortune_ceiling, fortune_rules, rules_of}
@@ -77,23 +76,10 @@ module _ (odds : List ℕ) where
   no_raise stakes Raised none = no_stake_at stakes none 0
   no_raise stakes Left none = refl
 
-  largest_le : five_postable odds ≡ true → largest odds ≤ 1000
-  largest_le h =
-      let p : ℕ → Bool = λ i. postable (slice_index odds i) in
-      let a = and_parts (p 0) (p 1 && (p 2 && (p 3 && p 4))) h in
-      let b = and_parts (p 1) (p 2 && (p 3 && p 4)) a.1 in
-      let c = and_parts (p 2) (p 3 && p 4) b.1 in
-      let d = and_parts (p 3) (p 4) c.1 in
-      omega (
-        arith,
-        postable_le (slice_index odds 0) a.0,
-        postable_le (slice_index odds 1) b.0,
-        postable_le (slice_index odds 2) c.0,
-        postable_le (slice_index odds 3) d.0,
-        postable_le (slice_index odds 4) d.1,
-      )
+  largest_le : all_postable odds ≡ true → largest odds ≤ 1000
+  largest_le h = omega (arith, postable_at odds h 0, postable_at odds h 1, postable_at odds h 2, postable_at odds h 3, postable_at odds h 4)
 
-  fortune_facts : five_postable odds ≡ true → Facts (fortune_rules odds)
+  fortune_facts : all_postable odds ≡ true → Facts (fortune_rules odds)
   fortune_facts posted = record {
     pays = λ seat stakes c d s a f. returns_le stakes (seat_hand 3 seat d) (bank_hand 3 d) c s.five;
     idle_return = λ seat stakes c d s none f. omega (arith, returns_le stakes (seat_hand 3 seat d) (bank_hand 3 d) c s.five, no_ceiling stakes none, no_raise stakes c none);

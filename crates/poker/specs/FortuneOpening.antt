@@ -3,11 +3,11 @@ use Rattle.std.specs.Prelude.{◌≡◌, ℕ, Bool, true, ◌&&◌, List, Result
 use Rattle.refusals.specs.declared.Refusal.{Refusal}
 use Rattle.game.specs.Opening.{Refuses}
 use Rattle.poker.specs.declared.fortune.posted.Fortune.{Fortune}
-use Rattle.poker.specs.Posting.{five_postable}
+use Rattle.game.specs.Odds.{all_postable}
 
--- what Fortune asks of cap and odds: no cap, and five odds that may be posted
+-- what Fortune asks of cap and odds: no cap, and odds that may all be posted
 abbrev pub fortune_conditions : ℕ → List ℕ → Bool
-fortune_conditions cap odds = cap == 0 && five_postable odds
+fortune_conditions cap odds = cap == 0 && all_postable odds
 
 -- the game that is opened: at these odds, with this way of grading
 pub record Opens {G : Type 0} (grading : G) (cap : ℕ) (odds : List ℕ) (g : Fortune G) : Type 0 where

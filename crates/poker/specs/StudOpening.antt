@@ -3,11 +3,12 @@ use Rattle.std.specs.Prelude.{◌≡◌, ℕ, Bool, true, ◌&&◌, List, Result
 use Rattle.refusals.specs.declared.Refusal.{Refusal}
 use Rattle.game.specs.Opening.{Refuses}
 use Rattle.poker.specs.declared.stud.posted.Stud.{Stud}
-use Rattle.poker.specs.Posting.{cap_postable, five_unused}
+use Rattle.game.specs.Odds.{all_unused}
+use Rattle.poker.specs.Posting.{cap_postable}
 
 -- what Stud asks of cap and odds: a cap that may be posted, and no odds
 abbrev pub stud_conditions : ℕ → List ℕ → Bool
-stud_conditions cap odds = cap_postable cap && five_unused odds
+stud_conditions cap odds = cap_postable cap && all_unused odds
 
 -- the game that is opened: at this cap
 pub record Opens (cap : ℕ) (odds : List ℕ) (g : Stud) : Type 0 where

@@ -2,13 +2,13 @@
 #![tactic(auto)]
 
 // Dealing hands to the staking seats and the bank.
-pub mod dealing;
+mod dealing;
 
 // Whether cards hold a rank.
 mod ranks;
 
 // How a round ends for a raised seat, and what ante and raise then bring.
-pub mod outcome;
+mod outcome;
 
 // A seat's stakes by their names.
 mod stakes;

@@ -1,12 +1,13 @@
 -- A whole history: opening a table, and then a list of calls, each handed a ledger of its own size.
-use Rattle.std.specs.Prelude.{◌≡◌, ℕ, min, Bool, List, [], ◌∷◌, ◌++◌, map, Ok, Err, Result}
+use Rattle.std.specs.Prelude.{◌≡◌, ℕ, min, Bool, List, [], ◌∷◌, ◌++◌, map, None, Ok, Err, Result}
 use Rattle.refusals.specs.declared.Refusal.{Refusal}
+use Rattle.refusals.specs.Refusals.{first_cause}
 use Rattle.commands.specs.Calls.{Call, call_of}
 use Rattle.game.specs.declared.interface.Game.{Ghosts}
 use Rattle.game.specs.Rules.{Rules}
 use Rattle.books.specs.declared.table_books.Books.{Books}
 use Rattle.table.specs.declared.holdings.Table.{Table}
-use Rattle.table.specs.Opening.{Opened}
+use Rattle.table.specs.Opening.{open_causes, Opened}
 use Rattle.table.specs.Promise.{Reached}
 use Rattle.table.specs.Soundness.{Sound}
 use Rattle.table.specs.Tally.{Turn, turn}
@@ -28,7 +29,7 @@ pub record Played (R : Rules) (minimum maximum tray : ℕ) (requests : List Requ
   pub sound : Sound R b
   pub reached : Reached R minimum maximum tray turns b
 
--- a replayed history: where the table is refused, as at opening; else all that the promise says of a table that the whole history led to
+-- a replayed history: refused where the opening is; else the opening was accepted, and all that the promise says holds of the table that the whole history led to
 abbrev pub Replayed : {G : Type 0} (g : Ghosts G) → G → ℕ → ℕ → ℕ → List Request → ℕ → Result (Table G g) Refusal → Type 0
-Replayed g game minimum maximum tray requests places (Ok t) = (t.game ≡ game) × Played (g.rules game) minimum maximum tray requests places t.books
+Replayed g game minimum maximum tray requests places (Ok t) = (first_cause (open_causes minimum maximum tray) ≡ None) × (t.game ≡ game) × Played (g.rules game) minimum maximum tray requests places t.books
 Replayed g game minimum maximum tray requests places (Err e) = Opened g game minimum maximum tray (Err e)

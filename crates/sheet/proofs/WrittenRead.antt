@@ -12,6 +12,7 @@ use Rattle.commands.specs.Calls.{Call, Open, Buy, Cash, Fill, Draw, Bet, Deal, R
 use Rattle.sheet.specs.Format.{bytes_of, width, width_of, ConditionsFit, FitsFormat}
 use Rattle.sheet.specs.Reading.{row, all_zero, bad_deal, call_in, longest, means, read_at, some_call, unless}
 use Rattle.sheet.specs.Writing.{too_many, write_faults, write_at, with_bytes, buffer_after, ReadsBack}
+use Rattle.sheet.proofs.Items.{width_some}
 use Rattle.sheet.proofs.Places.{read_of}
 use Rattle.sheet.proofs.Numbers.{number_in_bytes}
 
@@ -81,17 +82,11 @@ means_itself Void f few rest = itself Void rest (omega arith) refl refl refl
 
 -- a call has at least one byte
 some_bytes : (c : Call) → 1 ≤ length (bytes_of c)
-some_bytes (Open c tray) = omega arith
-some_bytes (Buy seat n) = omega arith
-some_bytes (Cash seat n) = omega arith
-some_bytes (Fill n) = omega arith
-some_bytes (Draw n) = omega arith
-some_bytes (Bet seat space n) = omega arith
-some_bytes (Deal cards) = omega arith
-some_bytes (Raise seat) = omega arith
-some_bytes (Leave seat) = omega arith
-some_bytes Settle = omega arith
-some_bytes Void = omega arith
+some_bytes c = go (bytes_of c) (width_some c)
+  where
+    go : (bs : List ℕ) → 1 ≤ width (get_or bs 0 0) → 1 ≤ length bs
+    go [] h = absurd (omega (arith, h))
+    go (b ∷ bs) h = omega arith
 
 -- a call that was written into a buffer reads back from it
 written_reads : (c : Call) → FitsFormat c → (out : List ℕ) (at : ℕ) → first_cause (write_faults out at c) ≡ None

@@ -1,5 +1,5 @@
 // The operands behind a command's first byte: each function takes its own from the front and leaves the rest.
-// The rules of the project take operands by slice patterns, which name each byte, so each width of a number has a function of its own.
+// A slice pattern names each byte that it takes, so each width of a number has a function of its own.
 ghost use Rattle.std.specs.Prelude.{◌≡◌, ℕ, ◌+◌, ◌<◌, length, take, MatchResult};
 ghost use Rattle.refusals.specs.declared.Cause.TheVariants.{CutShort};
 ghost use Rattle.sheet.specs.Reading.{Took, number, conditions_in, odds_in, all_zero, Drawn};

@@ -88,7 +88,7 @@ fn advance<'a>(sheet: &'a [u8], place: &mut Place) -> Result<Option<Command<'a>>
 }
 
 // The command at a place, with the place moved behind it; none at the end of the sheet, or past it.
-pub fn read<'a>(sheet: &'a [u8], place: &mut Place) -> Result<Option<Command<'a>>, Refusal>
+pub(crate) fn read<'a>(sheet: &'a [u8], place: &mut Place) -> Result<Option<Command<'a>>, Refusal>
     ensures answer { calls result ≡ read_at sheet.now place.old.at }
     ensures place { place.new.at ≡ behind (calls result) place.old.at }
     ensures bytes { SameBytes sheet.now place.old.at (calls result) }

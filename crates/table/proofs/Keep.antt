@@ -52,8 +52,8 @@ empty_small = record { five = refl; each = λ i. zero_at i }
     zero_at (suc (suc (suc (suc (suc i))))) = omega arith
 
 -- a cleared seat is sound at any game
-pub cleared_sound : (R : Rules) (s : Seat) (n : ℕ) → SeatSound R (cleared s n)
-cleared_sound R s n = record { small = empty_small; raise = refl; chosen = tt }
+pub cleared_sound : (R : Rules) (n : ℕ) → SeatSound R (cleared n)
+cleared_sound R n = record { small = empty_small; raise = refl; chosen = tt }
 
 -- where the first seat that a test picks is none, it picks no seat
 none_picked : (p : ℕ → Bool) (ks : List ℕ) → first_seat p ks ≡ None → (i : ℕ) → i < length ks → p (get_or ks i 0) ≡ false
@@ -94,7 +94,7 @@ module _ (R : Rules) where
         (all_zero s.stakes h.small.five none, h.raise ∙ idle_added s.stakes s.choice h.small none)
 
     -- a seat that does not stake, with its choice ended, is a cleared seat
-    pub idle_cleared : (s : Seat) → SeatSound R s → does_stake s ≡ false → (n : ℕ) → s.rack ≡ n → unchosen s ≡ cleared s n
+    pub idle_cleared : (s : Seat) → SeatSound R s → does_stake s ≡ false → (n : ℕ) → s.rack ≡ n → unchosen s ≡ cleared n
     idle_cleared s h idle n e =
         let p = idle_laid s h idle in
         λ i. record { rack = e i; stakes = p.0 i; raised = p.1 i; choice = Open }
@@ -114,20 +114,20 @@ module _ (R : Rules) where
           facts.idle_return k v.stakes v.choice r (s.seats k lt).small (omega (arith, ltb-false 0 (sum v.stakes) idle)) (dealt_sound b r s dealt)
 
     -- clearing a seat ends its choice, so the stage still stands
-    stands_cleared : (b : Books) (k n tray : ℕ) → length b.seats ≡ 7 → (g : Stage) → StageSound R b g → StageSound R (with_tray (with_seat b k (cleared (seat_at b k) n)) tray) g
-    stands_cleared b k n tray e Betting a = each_set (λ x. x.choice ≡ Open) b.seats k (cleared (seat_at b k) n) nobody 7 e refl a
+    stands_cleared : (b : Books) (k n tray : ℕ) → length b.seats ≡ 7 → (g : Stage) → StageSound R b g → StageSound R (with_tray (with_seat b k (cleared n)) tray) g
+    stands_cleared b k n tray e Betting a = each_set (λ x. x.choice ≡ Open) b.seats k (cleared n) nobody 7 e refl a
     stands_cleared b k n tray e (Dealt r) a = a
 
     -- one seat of sound books is cleared, and the tray changes so that it still covers the ceilings and the total stays
-    pub cleared_at_sound : (b : Books) (k n tray : ℕ) → Sound R b → k < 7 → let s = seat_at b k in let b' = with_tray (with_seat b k (cleared s n)) tray in
+    pub cleared_at_sound : (b : Books) (k n tray : ℕ) → Sound R b → k < 7 → let s = seat_at b k in let b' = with_tray (with_seat b k (cleared n)) tray in
         total b' ≡ total b → b.tray ≤ tray + ceil R s → Sound R b'
     cleared_at_sound b k n tray s lt same tray_fits =
         let v = seat_at b k in
         record {
-          seven = length-set b.seats k (cleared v n) ∙ s.seven;
-          seats = each_set (SeatSound R) b.seats k (cleared v n) nobody 7 s.seven (cleared_sound R v n) s.seats;
+          seven = length-set b.seats k (cleared n) ∙ s.seven;
+          seats = each_set (SeatSound R) b.seats k (cleared n) nobody 7 s.seven (cleared_sound R n) s.seats;
           within = subst (λ t. t ≤ limit) (sym same) s.within;
-          covered = omega (arith, ceilings_set R b k (cleared v n) s.seven lt, s.covered, facts.idle_ceiling empty empty_small refl);
+          covered = omega (arith, ceilings_set R b k (cleared n) s.seven lt, s.covered, facts.idle_ceiling empty empty_small refl);
           counted = s.counted;
           least = s.least;
           bounds = s.bounds;
@@ -181,7 +181,7 @@ module _ (R : Rules) where
     module _ (b : Books) (r : Round) (s : Sound R b) (dealt : b.stage ≡ Dealt r) where
       -- what a settled seat becomes
       abbrev pub settled_seat : ℕ → Seat → Seat
-      settled_seat k v = cleared v (v.rack + return_to R r k v)
+      settled_seat k v = cleared (v.rack + return_to R r k v)
 
       pub settle_total : (k : ℕ) → k < 7 → May R (seat_at b k) → total (settle_seat R r b k) ≡ total b
       settle_total k lt may =

@@ -3,7 +3,7 @@ use Rattle.std.proofs.Common.{◌≡◌, ℕ, ◌+◌, ◌-◌, ◌<◌, ◌≤�
 use Rattle.std.proofs.lemmas.List.{get_or-set_same, get_or-set_other, take-append-le, take_at, get_or_append_left, get_or_at, length-append}
 use Rattle.std.proofs.lemmas.Int.{ints}
 use Rattle.std.proofs.lemmas.List.Sums.{sum_by_push, fold_push}
-use Rattle.std.proofs.lemmas.Bool.{cases_eq, cases_lt, true≢false, ltb-false, eq-eqb, ne_eqb, and_parts}
+use Rattle.std.proofs.lemmas.Bool.{cases_eq, cases_lt, true≢false, ltb-false, eq-eqb, ne_eqb, and_parts, not-true}
 use Rattle.std.proofs.lemmas.Bool.Decides.{nat_tests}
 use Rattle.refusals.specs.declared.Cause.TheVariants.{WrongStage, ChoiceMissing, NoPlaceFree}
 use Rattle.refusals.specs.declared.Refusal.{Refusal}
@@ -82,10 +82,10 @@ module _ (R : Rules) (facts : Facts R) where
         subst (λ x. Agree x ((settled_by R t (Some d)).slip k)) (sym same)
         (record { balance = omega (arith, ints, returned, laying, adding, a.balance, (s.seats k lt).raise); stakes = refl; choice = refl })
 
-    voided_agree : (k : ℕ) → k < 7 → Agree (seat_at (voided b) k) (cleared_slip (t.slip k) (t.slip k).balance)
+    voided_agree : (k : ℕ) → k < 7 → Agree (seat_at (voided b) k) (cleared_slip (t.slip k).balance)
     voided_agree k lt =
         let a = l.seats k lt in
-        subst (λ x. Agree x (cleared_slip (t.slip k) (t.slip k).balance)) (sym (voided_at b k lt)) (record { balance = omega (arith, ints, a.balance); stakes = refl; choice = refl })
+        subst (λ x. Agree x (cleared_slip (t.slip k).balance)) (sym (voided_at b k lt)) (record { balance = omega (arith, ints, a.balance); stakes = refl; choice = refl })
 
     settled_tallied : Sound R b → missing R b ≡ None → (g : Stage) (o : Option game.Deal) → b.stage ≡ g → o ≡ deal_on g → is_betting g ≡ false → Tallied (settled_in R b g) (settled_by R t o)
     settled_tallied s m Betting o e q h = absurd (true≢false h)
@@ -144,12 +144,8 @@ module _ (R : Rules) (facts : Facts R) where
   none_first p [] e = refl
   none_first p (k ∷ ks) e =
       let q = and_parts (not (p k)) (none_of (map p ks)) e in
-      let out : p k ≡ false = not_true (p k) q.0 in
+      let out : p k ≡ false = not-true (p k) q.0 in
       ap (λ t. cond t (Some (k + 1)) (first_seat p ks)) out ∙ none_first p ks q.1
-    where
-      not_true : (x : Bool) → not x ≡ true → x ≡ false
-      not_true true h = sym h
-      not_true false h = refl
 
   settles_now : (b : Books) (t : Tally) (c : Call) (free : ℕ) (a : Bool) → Tallied b t → a ≡ is_ok (verdict R b c free) → Settles R t (turn c free a)
   settles_now b t c free a l told is_settle ready =
@@ -158,12 +154,8 @@ module _ (R : Rules) (facts : Facts R) where
       let waits : map (λ k. is_awaited R (t.slip k)) seats ≡ map (λ k. due R (seat_at b k)) every = every_agree (λ k. is_awaited R (t.slip k)) (λ k. due R (seat_at b k)) (awaited_is b t l) in
       let complete : missing R b ≡ None = none_first (λ k. due R (seat_at b k)) every (sym (ap none_of waits) ∙ q.1) in
       let places : entries t ≡ stakers b = ap sum (every_agree (λ k. cond (is_staked t.slip k) 1 0) (λ k. one_if (does_stake (seat_at b k))) (λ k lt. ap one_if (staked_is b t l k lt))) in
-      told ∙ ap (λ x. is_ok (verdict R b x free)) is_settle ∙ accepts (is_betting b.stage) (missing R b) (stakers b) free (flip (is_betting b.stage) dealt) complete ∙ ap (λ n. leb n free) (sym places)
+      told ∙ ap (λ x. is_ok (verdict R b x free)) is_settle ∙ accepts (is_betting b.stage) (missing R b) (stakers b) free (not-true (is_betting b.stage) dealt) complete ∙ ap (λ n. leb n free) (sym places)
     where
-      flip : (x : Bool) → not x ≡ true → x ≡ false
-      flip true h = sym h
-      flip false h = refl
-
       accepts : (x : Bool) (m : Option ℕ) (n p : ℕ) → x ≡ false → m ≡ None → is_ok (judged (first_cause ((x, WrongStage) ∷ (is_some m, ChoiceMissing) ∷ (ltb p n, NoPlaceFree) ∷ [])) (refusal R b Settle)) ≡ leb n p
       accepts x m n p hx hm = rw (hx, hm) (go (ltb p n) refl)
         where

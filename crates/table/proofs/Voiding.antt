@@ -27,7 +27,7 @@ module _ (R : Rules) (facts : Facts R) (b : Books) (s : Sound R b) where
 
   pub voided_sound : Sound R (voided b)
   voided_sound =
-      let clear = λ (k : ℕ). cleared_sound R (seat_at b k) ((voided_seat (seat_at b k)).rack) in
+      let clear = λ (k : ℕ). cleared_sound R ((voided_seat (seat_at b k)).rack) in
       record {
         seven = refl;
         seats = seven (λ k. SeatSound R (seat_at (voided b) k)) (clear 0, clear 1, clear 2, clear 3, clear 4, clear 5, clear 6);

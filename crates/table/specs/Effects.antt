@@ -32,7 +32,7 @@ return_to R d k s = R.returns k s.stakes s.choice d
 abbrev pub settled : Rules → Books → game.Deal → Books
 settled R b d = record {
   tray = b.tray + sum (map (λ k. laid (seat_at b k)) every) - sum (map (λ k. return_to R d k (seat_at b k)) every);
-  seats = map (λ k. cleared (seat_at b k) ((seat_at b k).rack + return_to R d k (seat_at b k))) every;
+  seats = map (λ k. cleared ((seat_at b k).rack + return_to R d k (seat_at b k))) every;
   stage = Betting;
   rounds = b.rounds;
   minimum = b.minimum;
@@ -45,7 +45,7 @@ settled_in R b (Dealt r) = settled R b r
 
 -- a voided seat: what it laid is back in its rack, and its choice is over
 abbrev pub voided_seat : Seat → Seat
-voided_seat s = cleared s (s.rack + laid s)
+voided_seat s = cleared (s.rack + laid s)
 
 -- a table whose round is voided: all that was laid is back in the racks; spaces and choices are empty
 abbrev pub voided : Books → Books

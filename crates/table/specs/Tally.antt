@@ -47,8 +47,8 @@ abbrev pub with_choice : Slip → Choice → Slip
 with_choice s c = record { balance = s.balance; stakes = s.stakes; choice = c }
 
 -- a slip whose stakes and choice are cleared
-abbrev pub cleared_slip : Slip → ℤ → Slip
-cleared_slip s z = record { balance = z; stakes = none_staked; choice = open_choice }
+abbrev pub cleared_slip : ℤ → Slip
+cleared_slip z = record { balance = z; stakes = none_staked; choice = open_choice }
 
 -- the seven seats, counted from 0
 abbrev pub seats : List ℕ
@@ -64,7 +64,7 @@ gain R d k s = pos (R.returns k s.stakes s.choice d) -ℤ pos (sum s.stakes + ad
 
 abbrev pub settled_by : Rules → Tally → Option game.Deal → Tally
 settled_by R t None = t
-settled_by R t (Some d) = record { slip = λ k. cleared_slip (t.slip k) ((t.slip k).balance +ℤ gain R d k (t.slip k)); deal = None }
+settled_by R t (Some d) = record { slip = λ k. cleared_slip ((t.slip k).balance +ℤ gain R d k (t.slip k)); deal = None }
 
 -- the tally after an accepted call
 abbrev pub counted : Rules → Tally → Call → Tally
@@ -78,7 +78,7 @@ counted R t (Deal cards) = record { slip = t.slip; deal = Some (game.deal (map (
 counted R t (Raise s) = record { slip = at t.slip (s - 1) (with_choice (t.slip (s - 1)) Raised); deal = t.deal }
 counted R t (Leave s) = record { slip = at t.slip (s - 1) (with_choice (t.slip (s - 1)) Left); deal = t.deal }
 counted R t Settle = settled_by R t t.deal
-counted R t Void = record { slip = λ k. cleared_slip (t.slip k) (t.slip k).balance; deal = None }
+counted R t Void = record { slip = λ k. cleared_slip (t.slip k).balance; deal = None }
 
 -- a refused call changes nothing
 abbrev pub noted : Rules → Tally → Turn → Tally

@@ -14,6 +14,7 @@ returns g c =
     let same = c.in_ok-table.ensures.1 in
     record {
       replayed = (
+        c.in_ok-table.ensures.0,
         c.loop-request.invariant.0 ∙ same,
         played_all g.G.Game.rules _ _ same _ _ _ c.args.requests.now c.loop-request.request-index _ _ c.loop-request-test.false c.loop-request.invariant.1,
       );
