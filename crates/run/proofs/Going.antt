@@ -28,11 +28,17 @@ use Rattle.run.specs.declared.ended.Ended.TheVariants.{SheetEnd, Unreadable, NoR
 use Rattle.run.specs.Meaning.{note_of, noted, most_entries, Told, quiet, and_then, told}
 use Rattle.run.specs.Runs.{State, no_room, performed, unread, runs, run_of, to_come, Still, Ran}
 use Rattle.run.specs.Steps.{Moved, Stepped}
+use Rattle.run.specs.StopRule.{refusals_in, HasRoom, Each, EndsAt, StopRule}
 use Rattle.run.proofs.Enough.{verdict_enough}
+use Rattle.run.proofs.Stopping.{room_here, room_lacking, each_none, each_more, refusals_more, ends_at_end, ends_lacking, ends_unread}
 
 -- what is free once records were written
 free_then : {X : Type 0} (r r' : Roll X) (xs : List X) → Written r r' xs → free r - length xs ≡ free r'
 free_then r r' xs w = omega (arith, w.as_many, ap length w.kept_then, length-append (kept r) xs)
+
+-- nothing written leaves as many places free
+free_same : {X : Type 0} (r r' : Roll X) → Written r r' [] → free r' ≡ free r
+free_same r r' w = omega (arith, free_then r r' [] w)
 
 -- the state of a run, by its parts
 abbrev state : Books → List Entry → List Note → List Turn → ℕ → State
@@ -55,6 +61,9 @@ module _ (R : Rules) (sheet : List ℕ) (b : Books) (p : ℕ) (l : Roll Entry) (
     pub noting : Written n n' notes
     pub once : calls_in (items_of sheet p) ≡ map (λ u. u.call) turns ++ calls_in (items_of sheet p')
     pub parts : told R b (items_of sheet p) ≡ and_then entries notes (told R b' (items_of sheet p'))
+    -- each call was performed with room, and each refusal left one note
+    pub room : Each (λ before u. HasRoom u.free (free n - refusals_in before)) turns
+    pub left : free n' ≡ free n - refusals_in turns
     pub sound : Sound R b'
     pub leads : (minimum maximum tray : ℕ) (us : List Turn) → Reached R minimum maximum tray us b → Reached R minimum maximum tray (us ++ turns) b'
 
@@ -69,6 +78,8 @@ module _ (R : Rules) (sheet : List ℕ) (short : length sheet ≤ longest) (b : 
     noting = written_none n;
     once = refl;
     parts = refl;
+    room = each_none (λ before u. HasRoom u.free (free n - refusals_in before));
+    left = omega arith;
     sound = s;
     leads = λ minimum maximum tray us h. subst (λ x. Reached R minimum maximum tray x b) (sym (append-nil us)) h;
   }
@@ -122,6 +133,8 @@ module _ (R : Rules) (sheet : List ℕ) (short : length sheet ≤ longest) (b : 
             ∙ ap (λ k. and_then h.entries h.notes (and_then es ns (told R k (items_of sheet (p' + width_of c))))) (sym did.books)
             ∙ ap (λ k. and_then h.entries h.notes (and_then es ns (told R b'' (items_of sheet k)))) (sym m.place)
             ∙ then_then h.entries es h.notes ns (told R b'' (items_of sheet p''));
+        room = each_more (λ before u. HasRoom u.free (free n - refusals_in before)) h.turns x h.room (subst (HasRoom (free l')) h.left (room_here (free l') (free n') m.room));
+        left = omega (arith, free_then n' n'' ns m.notes, h.left, refusals_more h.turns c (free l') p' v);
         sound = m.performs.sound;
         leads = λ minimum maximum tray us r.
             subst (λ y. Reached R minimum maximum tray y b'') (append_assoc us h.turns (x ∷ [])) (m.performs.leads minimum maximum tray (us ++ h.turns) (h.leads minimum maximum tray us r));
@@ -132,10 +145,11 @@ module _ (R : Rules) (sheet : List ℕ) (short : length sheet ≤ longest) (b : 
       → run_of R sheet b p (free l) (free n) ≡ (state b' es ns us p', ended) → Written l l' es → Written n n' ns
       → calls_in (items_of sheet p) ≡ map (λ u. u.call) us ++ calls_in (items_of sheet p')
       → told R b (items_of sheet p) ≡ and_then es ns (to_come R sheet ended b' p')
+      → StopRule sheet (free n) us ended p' (free l')
       → Sound R b'
       → ((minimum maximum tray : ℕ) (vs : List Turn) → Reached R minimum maximum tray vs b → Reached R minimum maximum tray (vs ++ us) b')
       → Ran R sheet b p l n ended b' p' l' n'
-  finished es ns us ended b' p' l' n' e wrote noting once parts sound leads =
+  finished es ns us ended b' p' l' n' e wrote noting once parts stops sound leads =
       let es_is : es ≡ (run_of R sheet b p (free l) (free n)).0.entries = sym (ap (λ x. x.0.entries) e) in
       let ns_is : ns ≡ (run_of R sheet b p (free l) (free n)).0.notes = sym (ap (λ x. x.0.notes) e) in
       let us_is : us ≡ (run_of R sheet b p (free l) (free n)).0.turns = sym (ap (λ x. x.0.turns) e) in
@@ -147,17 +161,27 @@ module _ (R : Rules) (sheet : List ℕ) (short : length sheet ≤ longest) (b : 
         notes = subst (Written n n') ns_is noting;
         each_once = once ∙ ap (λ x. map (λ u. u.call) x ++ calls_in (items_of sheet p')) us_is;
         parts = parts ∙ ap (λ x. and_then x ns (to_come R sheet ended b' p')) es_is ∙ ap (λ x. and_then (run_of R sheet b p (free l) (free n)).0.entries x (to_come R sheet ended b' p')) ns_is;
+        stops = subst (λ x. StopRule sheet (free n) x ended p' (free l')) us_is stops;
         sound = sound;
         leads = λ minimum maximum tray vs r. subst (λ x. Reached R minimum maximum tray (vs ++ x) b') us_is (leads minimum maximum tray vs r);
       }
+
+  -- the stop rule, from where the last step began
+  stopped_so : (us : List Turn) (ended : Ended) (p' p'' : ℕ) (l' l'' : Roll Entry) (n' : Roll Note) → Each (λ before u. HasRoom u.free (free n - refusals_in before)) us
+      → free n' ≡ free n - refusals_in us → p'' ≡ p' → free l'' ≡ free l' → EndsAt sheet p' (free l') (free n') ended → StopRule sheet (free n) us ended p'' (free l'')
+  stopped_so us ended p' p'' l' l'' n' room left place same ends = record {
+    room = room;
+    ends = subst (λ k. EndsAt sheet k (free l'') (free n - refusals_in us) ended) (sym place) (subst (λ k. EndsAt sheet p' k (free n - refusals_in us) ended) (sym same) (subst (λ k. EndsAt sheet p' (free l') k ended) left ends));
+  }
 
   -- a last step that changed nothing
   stopped : (ended : Ended) (b' : Books) (p' : ℕ) (l' : Roll Entry) (n' : Roll Note) (b'' : Books) (p'' : ℕ) (l'' : Roll Entry) (n'' : Roll Note)
       → (h : Going R sheet b p l n b' p' l' n')
       → runs R (free l') (free n') (state b' h.entries h.notes h.turns p') (items_of sheet p') ≡ (state b' h.entries h.notes h.turns p', ended)
       → told R b' (items_of sheet p') ≡ to_come R sheet ended b' p'
+      → EndsAt sheet p' (free l') (free n') ended
       → Still b' p' l' n' b'' p'' l'' n'' → Ran R sheet b p l n ended b'' p'' l'' n''
-  stopped ended b' p' l' n' b'' p'' l'' n'' h e rest s =
+  stopped ended b' p' l' n' b'' p'' l'' n'' h e rest ends s =
       let es = h.entries in
       let ns = h.notes in
       let us = h.turns in
@@ -167,6 +191,7 @@ module _ (R : Rules) (sheet : List ℕ) (short : length sheet ≤ longest) (b : 
       (subst (Written n n'') (append-nil ns) (written_then n n' n'' ns [] h.noting s.notes))
       (h.once ∙ ap (λ k. map (λ u. u.call) us ++ calls_in (items_of sheet k)) (sym s.place))
       (h.parts ∙ ap (and_then es ns) (rest ∙ ap (λ k. to_come R sheet ended k p') (sym s.books) ∙ ap (λ k. to_come R sheet ended b'' k) (sym s.place)))
+      (stopped_so h.turns ended p' p'' l' l'' n' h.room h.left s.place (free_same l' l'' s.ledger) ends)
       (subst (Sound R) (sym s.books) h.sound)
       (λ minimum maximum tray vs r. subst (Reached R minimum maximum tray (vs ++ us)) (sym s.books) (h.leads minimum maximum tray vs r))
 
@@ -180,27 +205,27 @@ module _ (R : Rules) (sheet : List ℕ) (short : length sheet ≤ longest) (b : 
       → Going R sheet b p l n b' p' l' n' → Stepped R sheet b' p' l' n' (Some ended) b'' p'' l'' n'' → Ran R sheet b p l n ended b'' p'' l'' n''
   going_ends b' p' l' n' b'' p'' l'' n'' SheetEnd h s =
       let here : items_of sheet p' ≡ [] = items_here p' _ s.0 in
-      stopped SheetEnd b' p' l' n' b'' p'' l'' n'' h (ap (runs R (free l') (free n') (state b' h.entries h.notes h.turns p')) here) (ap (told R b') here) s.1
+      stopped SheetEnd b' p' l' n' b'' p'' l'' n'' h (ap (runs R (free l') (free n') (state b' h.entries h.notes h.turns p')) here) (ap (told R b') here) (ends_at_end sheet short p' (free l') (free n') s.0) s.1
   going_ends b' p' l' n' b'' p'' l'' n'' NoRoom h s =
       let st = state b' h.entries h.notes h.turns p' in
       stopped NoRoom b' p' l' n' b'' p'' l'' n'' h
       (ap (runs R (free l') (free n') st) (items_here p' (read_at sheet p') refl) ∙ full_stop st (free l') (free n') p' (read_at sheet p') (read_here sheet short p' s.0) s.1)
-      refl s.2
-  going_ends b' p' l' n' b'' p'' l'' n'' Unreadable h m =
+      refl (ends_lacking sheet short p' (free l') (free n') s.0 (room_lacking (free l') (free n') s.1)) s.2
+  going_ends b' p' l' n' b'' p'' l'' n'' (Unreadable e) h m =
       let es = h.entries in
       let ns = h.notes in
       let us = h.turns in
-      let e = m.refusal in
       let note : List Note = note_of p' e ∷ [] in
       let st = state b' es ns us p' in
       let here : items_of sheet p' ≡ fault p' e ∷ [] = items_here p' _ m.reads in
-      finished es (ns ++ note) us Unreadable b'' p'' l'' n''
-      (sym h.same ∙ ap (runs R (free l') (free n') st) here ∙ ap (λ t. cond t (st, NoRoom) (unread st p' e, Unreadable)) m.room
-      ∙ ap (λ k. (state k es (ns ++ note) us p', Unreadable)) (sym m.books) ∙ ap (λ k. (state b'' es (ns ++ note) us k, Unreadable)) (sym m.place))
+      finished es (ns ++ note) us (Unreadable e) b'' p'' l'' n''
+      (sym h.same ∙ ap (runs R (free l') (free n') st) here ∙ ap (λ t. cond t (st, NoRoom) (unread st p' e, Unreadable e)) m.room
+      ∙ ap (λ k. (state k es (ns ++ note) us p', Unreadable e)) (sym m.books) ∙ ap (λ k. (state b'' es (ns ++ note) us k, Unreadable e)) (sym m.place))
       (subst (Written l l'') (append-nil es) (written_then l l' l'' es [] h.wrote m.ledger))
       (written_then n n' n'' ns note h.noting m.notes)
       (h.once ∙ ap (λ k. map (λ u. u.call) us ++ calls_in (items_of sheet k)) (sym m.place))
       (h.parts ∙ ap (λ is. and_then es ns (told R b' is)) here ∙ then_then es [] ns note (quiet b') ∙ ap (λ x. and_then x (ns ++ note) (quiet b')) (append-nil es) ∙ ap (λ k. and_then es (ns ++ note) (quiet k)) (sym m.books))
+      (stopped_so h.turns (Unreadable e) p' p'' l' l'' n' h.room h.left m.place (free_same l' l'' m.ledger) (ends_unread sheet short p' (free l') (free n') e m.reads (room_here (free l') (free n') m.room)))
       (subst (Sound R) (sym m.books) h.sound)
       (λ minimum maximum tray vs r. subst (Reached R minimum maximum tray (vs ++ us)) (sym m.books) (h.leads minimum maximum tray vs r))
 

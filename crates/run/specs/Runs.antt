@@ -23,6 +23,7 @@ use Rattle.table.specs.Tally.{Turn, turn}
 use Rattle.run.specs.declared.ended.Ended.{Ended}
 use Rattle.run.specs.declared.ended.Ended.TheVariants.{SheetEnd, Unreadable, NoRoom}
 use Rattle.run.specs.Meaning.{note_of, noted, most_entries, Told, quiet, and_then, told}
+use Rattle.run.specs.StopRule.{StopRule}
 
 -- how far a run has come: the table, what it wrote and noted, the calls it performed with whether each was accepted, and its place
 pub record State : Type 0 where
@@ -59,7 +60,7 @@ runs R entries notes s [] = (s, SheetEnd)
 runs R entries notes s (command p c ∷ is) =
     let r = verdict R s.books c entries in
     cond (no_room entries notes) (s, NoRoom) (runs R (entries - length (either r (writes R s.books c) [])) (notes - length (noted p r)) (performed R entries s p c r) is)
-runs R entries notes s (fault p e ∷ is) = cond (no_room entries notes) (s, NoRoom) (unread s p e, Unreadable)
+runs R entries notes s (fault p e ∷ is) = cond (no_room entries notes) (s, NoRoom) (unread s p e, Unreadable e)
 
 -- the run of a sheet from a place on
 abbrev pub run_of : Rules → List ℕ → Books → ℕ → ℕ → ℕ → State × Ended
@@ -67,9 +68,8 @@ run_of R sheet b p entries notes = runs R entries notes (start b p) (items_of sh
 
 -- what is still to come after a run: all that the sheet means from its place on, where there was no room; else nothing
 abbrev pub to_come : Rules → List ℕ → Ended → Books → ℕ → Told
-to_come R sheet SheetEnd b p = quiet b
-to_come R sheet Unreadable b p = quiet b
 to_come R sheet NoRoom b p = told R b (items_of sheet p)
+to_come R sheet _ b p = quiet b
 
 -- the table, the place and both rolls are as they were
 pub record Still (b : Books) (p : ℕ) (l : Roll Entry) (n : Roll Note) (b' : Books) (p' : ℕ) (l' : Roll Entry) (n' : Roll Note) : Type 0 where
@@ -89,6 +89,8 @@ pub record Ran (R : Rules) (sheet : List ℕ) (b : Books) (p : ℕ) (l : Roll En
   pub each_once : calls_in (items_of sheet p) ≡ map (λ u. u.call) (run_of R sheet b p (free l) (free n)).0.turns ++ calls_in (items_of sheet p')
   -- stopping early and going on comes to the same table, entries and notes as the whole sheet does
   pub parts : told R b (items_of sheet p) ≡ and_then (run_of R sheet b p (free l) (free n)).0.entries (run_of R sheet b p (free l) (free n)).0.notes (to_come R sheet ended b' p')
+  -- each command was performed with room for it, and the run ended where the stop rule says
+  pub stops : StopRule sheet (free n) (run_of R sheet b p (free l) (free n)).0.turns ended p' (free l')
   pub sound : Sound R b'
   -- whatever history led here from a newly opened table, with the calls performed and whether each was accepted leads there
   pub leads : (minimum maximum tray : ℕ) (us : List Turn) → Reached R minimum maximum tray us b → Reached R minimum maximum tray (us ++ (run_of R sheet b p (free l) (free n)).0.turns) b'
