@@ -1,6 +1,7 @@
 -- Where a run ends, by the stop rule, and that each call before was performed with room.
-use Rattle.std.proofs.Common.{◌≡◌, ℕ, ◌+◌, ◌<◌, ◌≤◌, ◌&&◌, Bool, true, false, cond, eqb, ltb, List, [], ◌∷◌, ◌++◌, length, is_ok, Some, None, Ok, Err, Option, Result, sym, refl, ap, ◌∙◌, subst, ⊎_elim, arith}
-use Rattle.std.proofs.lemmas.List.{take-append-le, take_at, get_or_append_left, get_or_at, length-append}
+use Rattle.std.proofs.Common.{◌≡◌, ℕ, ◌+◌, ◌<◌, ◌≤◌, ◌&&◌, Bool, true, false, cond, eqb, ltb, List, [], ◌∷◌, ◌++◌, length, Some, None, Ok, Err, Option, Result, sym, refl, ap, ◌∙◌, ⊎_elim, arith}
+use Rattle.std.proofs.lemmas.List.{append-nil}
+use Rattle.std.proofs.lemmas.Grind.{flat_map-append}
 use Rattle.std.proofs.lemmas.List.Sums.{sum_by_push}
 use Rattle.std.proofs.lemmas.Bool.{cases_lt, ltb-false, lt-ltb, or_parts, or_cases}
 use Rattle.std.proofs.lemmas.Bool.Decides.{nat_tests}
@@ -8,11 +9,14 @@ use Rattle.refusals.specs.declared.Refusal.{Refusal}
 use Rattle.commands.specs.Calls.{Call}
 use Rattle.sheet.specs.Reading.{longest, read_at}
 use Rattle.sheet.proofs.Items.{read_past, read_here}
-use Rattle.table.specs.Tally.{Turn, turn}
+use Rattle.game.specs.Rules.{Rules}
+use Rattle.books.specs.declared.table_books.Books.{Books}
+use Rattle.table.specs.Promise.{turn_of}
+use Rattle.table.specs.Tally.{Turn, is_accepted}
 use Rattle.run.specs.declared.ended.Ended.TheVariants.{SheetEnd, Unreadable, NoRoom}
 use Rattle.run.specs.Meaning.{most_entries, noted}
 use Rattle.run.specs.Runs.{no_room}
-use Rattle.run.specs.StopRule.{refusals_in, HasRoom, LacksRoom, Each, EndsAt}
+use Rattle.run.specs.StopRule.{refusals_in, entries_in, HasRoom, LacksRoom, EndsAt}
 
 -- the tests for room, and what they mean
 pub room_here : (entries notes : ℕ) → no_room entries notes ≡ false → HasRoom entries notes
@@ -41,25 +45,14 @@ module _ (sheet : List ℕ) (short : length sheet ≤ longest) (p entries notes 
   pub room_fault : (e : Refusal) → Err e ≡ read_at sheet p → no_room entries notes ≡ false
   room_fault e reads = room_read (Err e) reads (λ i. cc)
 
--- one more turn of a history
-pub each_none : (P : List Turn → Turn → Type 0) → Each P []
-each_none P n u lt e = absurd (omega arith)
-
-pub each_more : (P : List Turn → Turn → Type 0) (us : List Turn) (x : Turn) → Each P us → P us x → Each P (us ++ x ∷ [])
-each_more P us x old now n u lt e =
-    ⊎_elim
-    (λ (before : n < length us).
-    subst (λ w. P w u) (sym (take-append-le n us (x ∷ []) (omega arith))) (old n u before (e ∙ get_or_append_left us (x ∷ []) u n before)))
-    (λ (past : length us ≤ n).
-    let here : length us ≡ n = omega (arith, length-append us (x ∷ [])) in
-    let is_x : u ≡ x = e ∙ get_or_at us x [] u n here in
-    subst (λ w. P w u) (sym (take_at us (x ∷ []) n here)) (subst (P us) (sym is_x) now))
-    (cases_lt n (length us))
-
 -- a refusal leaves one note, and an accepted call none
-pub refusals_more : (us : List Turn) (c : Call) (free p : ℕ) (v : Result (Unit {0}) Refusal) → refusals_in (us ++ turn c free (is_ok v) ∷ []) ≡ refusals_in us + length (noted p v)
-refusals_more us c free p (Ok x) = sum_by_push (λ u. cond u.accepted 0 1) us (turn c free true)
-refusals_more us c free p (Err e) = sum_by_push (λ u. cond u.accepted 0 1) us (turn c free false)
+pub refusals_more : (us : List Turn) (R : Rules) (b : Books) (c : Call) (free p : ℕ) (v : Result (Unit {0}) Refusal) → refusals_in (us ++ turn_of R b c free v ∷ []) ≡ refusals_in us + length (noted p v)
+refusals_more us R b c free p (Ok x) = sum_by_push (λ u. cond (is_accepted u) 0 1) us (turn_of R b c free (Ok x))
+refusals_more us R b c free p (Err e) = sum_by_push (λ u. cond (is_accepted u) 0 1) us (turn_of R b c free (Err e))
+
+-- the entries of one more turn
+pub entries_more : (us : List Turn) (x : Turn) → entries_in (us ++ x ∷ []) ≡ entries_in us ++ x.entries
+entries_more us x = flat_map-append (λ u. u.entries) us (x ∷ []) ∙ ap (λ es. entries_in us ++ es) (append-nil x.entries)
 
 -- where a run ends, by how it ended
 module _ (sheet : List ℕ) (short : length sheet ≤ longest) (p entries notes : ℕ) where

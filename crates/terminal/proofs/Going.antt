@@ -50,7 +50,7 @@ pub record NextRun (R : Rules) (sheet : List ℕ) (b : Books) (p : ℕ) (page : 
   pub printed : page' ≡ page ++ run_lines (out_of R sheet b p).0
   pub once : calls_in (items_of sheet p) ≡ calls_of (out_of R sheet b p).0.turns ++ calls_to_come sheet ended p'
   pub parts : (told R b (items_of sheet p)).books ≡ (to_come R sheet ended b' p').books
-  pub leads : (minimum maximum tray : ℕ) (us : List Turn) → Reached R minimum maximum tray us b → Reached R minimum maximum tray (us ++ (out_of R sheet b p).0.turns) b'
+  pub leads : (o : Opening) (us : List Turn) → Reached R o us b → Reached R o (us ++ (out_of R sheet b p).0.turns) b'
 
 -- how far printing has come: whatever is printed and promised from here on is what was to be printed and promised behind what is there
 pub record Going (sheet : List ℕ) (t : OpenTable) (p : ℕ) (first : Ended) (page : List ℕ) (t' : OpenTable) (p' : ℕ) (ended : Ended) (page' : List ℕ) : Type 0 where
@@ -89,8 +89,8 @@ module _ (R : Rules) (sheet : List ℕ) (b : Books) (p : ℕ) (page : List ℕ) 
         turns = s.turns ++ h.turns;
         books = h.books;
         calls = calls_then h.turns h.calls;
-        leads = λ minimum maximum tray us r.
-            subst (λ x. Reached R minimum maximum tray x h.books) (append_assoc us s.turns h.turns) (h.leads minimum maximum tray (us ++ s.turns) (m.leads minimum maximum tray us r));
+        leads = λ o us r.
+            subst (λ x. Reached R o x h.books) (append_assoc us s.turns h.turns) (h.leads o (us ++ s.turns) (m.leads o us r));
         meant = h.meant ∙ sym m.parts;
         before = run_lines s ++ h.before;
         last = ap (λ x. run_lines s ++ x) h.last ∙ sym (append_assoc (run_lines s) h.before (printed_closing (closing_of h.books)));
@@ -121,7 +121,7 @@ module _ (R : Rules) (sheet : List ℕ) (b : Books) (p : ℕ) where
     turns = [];
     books = b;
     calls = none;
-    leads = λ minimum maximum tray us r. subst (λ x. Reached R minimum maximum tray x b) (sym (append-nil us)) r;
+    leads = λ o us r. subst (λ x. Reached R o x b) (sym (append-nil us)) r;
     meant = same;
     before = [];
     last = refl;
@@ -180,7 +180,7 @@ module _ (R : Rules) (sheet : List ℕ) (b : Books) (p : ℕ) (l : Roll Entry) (
     printed = printed ∙ ap (λ x. page ++ x) lines_so;
     once = once_with R sheet b p roll_places roll_places ended p' ends_so (ran.each_once ∙ ap (λ x. calls_of x.0.turns ++ calls_in (items_of sheet p')) by_places);
     parts = ap (λ x. x.books) ran.parts;
-    leads = λ minimum maximum tray us r. subst (λ x. Reached R minimum maximum tray (us ++ x.0.turns) b') by_places (ran.leads minimum maximum tray us r);
+    leads = λ o us r. subst (λ x. Reached R o (us ++ x.0.turns) b') by_places (ran.leads o us r);
   }
 
   pub emptied : (l₁ : Roll Entry) (n₁ : Roll Note) → Emptied l' l₁ → Emptied n' n₁ → Ready l₁ n₁

@@ -48,7 +48,7 @@ pub record LedOn (R : Rules) (sheet : List ℕ) (b : Books) (p : ℕ) (ended : E
   pub turns : List Turn
   pub books : Books
   pub calls : map (λ u. u.call) turns ≡ calls_to_come sheet ended p
-  pub leads : (minimum maximum tray : ℕ) (us : List Turn) → Reached R minimum maximum tray us b → Reached R minimum maximum tray (us ++ turns) books
+  pub leads : (o : Opening) (us : List Turn) → Reached R o us b → Reached R o (us ++ turns) books
   pub meant : books ≡ (to_come R sheet ended b p).books
   pub before : List ℕ
   pub last : text ≡ before ++ printed_closing (closing_of books)
