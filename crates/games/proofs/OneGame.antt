@@ -1,7 +1,6 @@
 -- Conditions open one game only: whichever value stands for it, the rules are the same.
 use Rattle.std.proofs.Common.{◌≡◌, ℕ, ◌≤◌, true, List, sym, refl, ap, ◌∙◌, subst, arith}
 use Rattle.std.specs.Coded.{Coded-set, coded_bool}
-use Rattle.game.specs.Rules.{Rules}
 use Rattle.poker.specs.Fortune.{fortune_rules}
 use Rattle.poker.specs.Stud.{stud_rules}
 use Rattle.makccarat.specs.declared.posted.Makccarat.{Makccarat}
