@@ -7,8 +7,8 @@ use Rattle.refusals.specs.declared.Cause.TheVariants.{SheetTooLong}
 use Rattle.refusals.specs.Refusals.{refused as refused_for}
 use Rattle.sheet.specs.Reading.{longest, read_at}
 use Rattle.open_table.specs.Firsts.{first_refusal}
-use Rattle.terminal.specs.Printed.{LinesOf, empty, refused, played}
-use Rattle.terminal.specs.Promised.{PrintedOf}
+use Rattle.terminal.specs.SheetLines.{LinesOf, empty, refused, played}
+use Rattle.terminal.specs.Printed.{PrintedOf}
 use Rattle.terminal.specs.Streams.{SheetRead}
 
 -- a sheet that is too long is refused from its first byte

@@ -29,7 +29,7 @@ use Rattle.run.proofs.Progress.{moves_on}
 use Rattle.open_table.specs.declared.open_table.OpenTable.{OpenTable}
 use Rattle.open_table.specs.Sums.{closing_of}
 use Rattle.open_table.specs.Tables.{rules_at, books_at, SheetRun}
-use Rattle.terminal.specs.Printed.{roll_places, run_at, and_further, runs_up_to, all_runs, left_by, run_lines, lines_of_runs}
+use Rattle.terminal.specs.SheetLines.{roll_places, run_at, and_further, runs_up_to, all_runs, left_by, run_lines, lines_of_runs}
 use Rattle.terminal.specs.Promised.{turns_in}
 use Rattle.terminal.specs.Pages.{Emptied, Ready, runs_after, calls_after, lines_after, LedOn, PrintedInPart}
 use Rattle.terminal.proofs.AllCalls.{calls_of, once_with}

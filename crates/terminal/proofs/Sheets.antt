@@ -34,8 +34,9 @@ use Rattle.open_table.specs.Begins.{RunningFrom, SheetBegun}
 use Rattle.open_table.specs.Firsts.{first_refusal}
 use Rattle.open_table.specs.Tables.{opening_of, opening_causes, rules_at, books_at}
 use Rattle.open_table.proofs.Summing.{parts_add_up}
-use Rattle.terminal.specs.Printed.{run_at, all_runs, left_by, run_lines, lines_of_runs, LinesOf, empty, refused, played}
-use Rattle.terminal.specs.Promised.{turns_in, Kept, Promised, OneText}
+use Rattle.terminal.specs.SheetLines.{run_at, all_runs, left_by, run_lines, lines_of_runs, LinesOf, empty, refused, played}
+use Rattle.terminal.specs.Promised.{turns_in, Kept, Promised}
+use Rattle.terminal.specs.Printed.{OneText}
 use Rattle.terminal.specs.Pages.{Ready, runs_after, lines_after, LedOn, PrintedInPart, Page, PageInPart}
 use Rattle.terminal.proofs.Going.{NextRun, runs_are, lines_are, led_then, one_run, lines_so, by_places}
 use Rattle.terminal.proofs.Parts.{one_line, concat_then, part_behind, part_more, none_in_part}

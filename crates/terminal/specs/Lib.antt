@@ -1,4 +1,5 @@
 pub mod Pages
 pub mod Printed
 pub mod Promised
+pub mod SheetLines
 pub mod Streams

@@ -17,8 +17,9 @@ use Rattle.run.specs.declared.ended.Ended.TheVariants.{NoRoom}
 use Rattle.run.specs.Meaning.{most_entries}
 use Rattle.run.specs.Runs.{State, to_come}
 use Rattle.run.specs.StopRule.{entries_in}
-use Rattle.terminal.specs.Printed.{roll_places, all_runs, left_by, lines_of_runs, LinesOf}
-use Rattle.terminal.specs.Promised.{turns_in, outcome, PrintedOf}
+use Rattle.terminal.specs.SheetLines.{roll_places, all_runs, left_by, lines_of_runs, LinesOf}
+use Rattle.terminal.specs.Promised.{turns_in, outcome}
+use Rattle.terminal.specs.Printed.{PrintedOf}
 
 -- a roll that keeps nothing, on as many places as before
 pub record Emptied {R : Type 0} (r r' : Roll R) : Type 0 where

@@ -20,7 +20,7 @@ use Rattle.run.specs.Runs.{State}
 use Rattle.run.specs.StopRule.{entries_in}
 use Rattle.open_table.specs.Sums.{closing_of}
 use Rattle.open_table.specs.Tables.{opening_of, opening_causes}
-use Rattle.terminal.specs.Printed.{all_runs, left_by, LinesOf}
+use Rattle.terminal.specs.SheetLines.{all_runs, left_by}
 
 -- the chips that a closing line tells, added
 abbrev pub told_in : Closing → ℕ
@@ -53,14 +53,3 @@ pub record Kept (R : Rules) (sheet : List ℕ) (c : Conditions) (tray : ℕ) (rs
 abbrev pub Promised : List ℕ → Type 0
 Promised sheet = (c : Conditions) (tray : ℕ) (game : AnyGame) → read_at sheet 0 ≡ Ok (Some (Open c tray)) → first_cause (opening_causes c tray) ≡ None → Opens c.game c.cap c.odds game
     → Kept (rules_of game) sheet c tray (all_runs (rules_of game) sheet (opened (opening_of c tray)) (width_of (Open c tray)))
-
--- what is printed of a whole sheet: its lines, of which the whole promise holds
-pub record PrintedOf (sheet text : List ℕ) : Type 0 where
-  pub lines : List (List ℕ)
-  pub lines_of : LinesOf sheet lines
-  pub is : text ≡ concat lines
-  pub promised : Promised sheet
-
--- there is one such text only
-abbrev pub OneText : List ℕ → Type 0
-OneText sheet = (text text' : List ℕ) → PrintedOf sheet text → PrintedOf sheet text' → text ≡ text'
