@@ -1,4 +1,3 @@
 pub mod Pages
 pub mod Printed
 pub mod Promised
-pub mod Streams

@@ -1,5 +1,6 @@
 // Sheets that are read from bytes in memory and settled to a page in memory.
-use crate::streams::{read_sheet, settle_to};
+use crate::streams::settle_stream;
+use byte_streams::source::FromReader;
 use std::io;
 use std::test::Fail;
 
@@ -17,9 +18,9 @@ const ROUND: &[u8] = b"\
 
 #[test]
 fn a_round_is_read_and_settled(rt: HostRuntime) -> Result<(), Fail> {
-    let sheet = read_sheet(rt.alloc(), ROUND)?;
     let mut page = Vec::new(rt.alloc());
-    settle_to(rt.alloc(), &mut page, &sheet)?;
+    let mut sheet = ROUND;
+    settle_stream(rt.alloc(), &mut sheet, &mut page)?;
     assert_eq!(rt;
         page.as_slice(),
         b"E 1 1 100 200 100\nX 53 5 1 table\nZ 99900 1100 0\n".as_slice()
@@ -30,10 +31,9 @@ fn a_round_is_read_and_settled(rt: HostRuntime) -> Result<(), Fail> {
 // A reader that never ends gives one byte more than a sheet may have.
 #[test]
 fn a_longer_sheet_is_seen_to_be_too_long(rt: HostRuntime) -> Result<(), Fail> {
-    let sheet = read_sheet(rt.alloc(), io::repeat(0x53))?;
-    assert_eq!(rt; sheet.len(), 65_537);
     let mut page = Vec::new(rt.alloc());
-    settle_to(rt.alloc(), &mut page, &sheet)?;
+    let mut sheet = FromReader(io::repeat(0x53));
+    settle_stream(rt.alloc(), &mut sheet, &mut page)?;
     assert_eq!(rt; page.as_slice(), b"X 0 22 0 sheet\n".as_slice());
     Ok(())
 }

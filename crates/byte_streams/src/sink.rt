@@ -5,9 +5,10 @@ ghost use Rattle.std.specs.Io.KnownBytes.{WriteAppends, Appends};
 ghost use Rattle.std.specs.IoError.{error_kind};
 ghost use Rattle.std.specs.declared.io.Error.{Error};
 ghost use Rattle.std.specs.declared.io.ErrorKind.TheVariants.{OutOfMemory};
-ghost use Rattle.streams.specs.Streams.{AppendsPart};
+ghost use Rattle.byte_streams.specs.Streams.{AppendsPart, WritesAll};
 
 use crate::TRIES;
+use crate::error::StreamError;
 use std::io;
 use std::io::{ErrorKind, Write};
 
@@ -71,9 +72,8 @@ fn write_uninterrupted<T: Sink>(sink: &mut T, bytes: &[u8]) -> io::Result<usize>
     sink.write_some(bytes)
 }
 
-/// Writes all of some bytes to a sink. Where the sink returns an error, some bytes from the front on were written, but not all.
-/// A write that a signal interrupts is made again, a thousand times in a row at most.
-pub fn write_all<T: Sink>(sink: &mut T, bytes: &[u8]) -> io::Result<()>
+// Writes until nothing is left to write.
+fn write_to_end<T: Sink>(sink: &mut T, bytes: &[u8]) -> io::Result<()>
     ensures all { OnOk result (Appends (T.contents sink.old) (T.contents sink.new) bytes.now) }
     ensures part { OnErr result (AppendsPart (T.contents sink.old) (T.contents sink.new) bytes.now) }
     ensures error { IfErr result T.fails_with }
@@ -84,4 +84,12 @@ pub fn write_all<T: Sink>(sink: &mut T, bytes: &[u8]) -> io::Result<()>
         rest = &rest[written..];
     }
     Ok(())
+}
+
+/// Writes all of some bytes to a sink. Where the sink returns an error, bytes from the front on were written, but not all.
+/// A write that a signal interrupts is made again, a thousand times in a row at most.
+pub fn write_all<T: Sink>(sink: &mut T, bytes: &[u8]) -> Result<(), StreamError>
+    ensures { WritesAll T.fails_with (T.contents sink.old) (T.contents sink.new) bytes.now result }
+{
+    write_to_end(sink, bytes).map_err(StreamError::Writing)
 }

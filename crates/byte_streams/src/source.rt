@@ -3,8 +3,10 @@ ghost use Rattle.std.specs.Prelude.{◌≡◌, ℕ, ◌<◌, ◌≤◌, ⊤, Lis
 ghost use Rattle.std.specs.Io.{ReadsAtMost};
 ghost use Rattle.std.specs.Io.KnownBytes.{ReadConsumes, IsAtEnd};
 ghost use Rattle.std.specs.declared.io.Error.{Error};
+ghost use Rattle.byte_streams.specs.Streams.{ReadFails};
 
 use crate::TRIES;
+use crate::error::StreamError;
 use std::io;
 use std::io::{ErrorKind, Read};
 
@@ -63,9 +65,8 @@ fn read_uninterrupted<S: Source>(source: &mut S, buffer: &mut [u8]) -> io::Resul
     source.read_some(buffer)
 }
 
-/// Fills a buffer from a source until the buffer is full or the source is at its end, and returns how many bytes were read.
-/// A read that a signal interrupts is made again, a thousand times in a row at most; any other error is returned at once, and the bytes read before it are lost.
-pub fn fill<S: Source>(source: &mut S, buffer: &mut [u8]) -> io::Result<usize>
+// Reads until a buffer is full or the source is at its end, and returns how many bytes were read.
+fn read_to_fill<S: Source>(source: &mut S, buffer: &mut [u8]) -> io::Result<usize>
     ensures within { IfOk result (λ n. n ≤ length buffer.new) }
     ensures bytes { IfOk result (λ n. IfSome (S.remaining source.old) (λ xs. take n buffer.new ≡ take (length buffer.new) xs)) }
     ensures end { IfOk result (λ n. n < length buffer.new → IsAtEnd (S.remaining source.new)) }
@@ -80,4 +81,15 @@ pub fn fill<S: Source>(source: &mut S, buffer: &mut [u8]) -> io::Result<usize>
         filled += read;
     }
     Ok(filled)
+}
+
+/// Fills a buffer from a source until the buffer is full or the source is at its end, and returns how many bytes were read.
+/// A read that a signal interrupts is made again, a thousand times in a row at most; any other error is returned at once, and the bytes read before it are lost.
+pub fn fill<S: Source>(source: &mut S, buffer: &mut [u8]) -> Result<usize, StreamError>
+    ensures within { IfOk result (λ n. n ≤ length buffer.new) }
+    ensures bytes { IfOk result (λ n. IfSome (S.remaining source.old) (λ xs. take n buffer.new ≡ take (length buffer.new) xs)) }
+    ensures end { IfOk result (λ n. n < length buffer.new → IsAtEnd (S.remaining source.new)) }
+    ensures error { IfErr result (ReadFails S.fails_with) }
+{
+    read_to_fill(source, buffer).map_err(StreamError::Reading)
 }

@@ -2,8 +2,8 @@
 use Rattle.std.proofs.Common.{◌<◌, ◌++◌, length, take, rules, arith}
 use Rattle.std.proofs.KnownBytes.{Appends-trans}
 use Rattle.std.proofs.lemmas.Result.{err_from_is_err_and}
-use Rattle.streams.proofs.KnownBytes.{moves_front, part_written}
-use Rattle.streams.proofs.sink.write_all.Goals as goal
+use Rattle.byte_streams.proofs.KnownBytes.{moves_front, part_written}
+use Rattle.byte_streams.proofs.sink.write_to_end.Goals as goal
 
 pub returns-in_err-written-clause-part : goal.returns-in_err-written-clause-part
 returns-in_err-written-clause-part g c =

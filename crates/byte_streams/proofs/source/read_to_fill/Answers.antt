@@ -1,8 +1,8 @@
 -- Each read puts its bytes behind those that were read.
 use Rattle.std.proofs.Common.{◌≡◌, ◌-◌, ◌≤◌, length, drop, ◌∙◌, arith, length-drop, length-take-le}
 use borrow.Rule.Slice.PartMut.{same_len_mid}
-use Rattle.streams.proofs.KnownBytes.{filled_more}
-use Rattle.streams.proofs.source.fill.Goals as goal
+use Rattle.byte_streams.proofs.KnownBytes.{filled_more}
+use Rattle.byte_streams.proofs.source.read_to_fill.Goals as goal
 
 pub loop-filled-preserved : goal.loop-filled-preserved
 loop-filled-preserved g c =

@@ -4,7 +4,7 @@ use Rattle.std.proofs.lemmas.List.{take-append-le, take_at, take_rest}
 use Rattle.std.proofs.Math.Seq.{take-append-add}
 use Rattle.std.proofs.KnownBytes.{Consumes-trans, Appends-kept}
 use Rattle.std.specs.Io.KnownBytes.{Consumes, Appends, Keeps}
-use Rattle.streams.specs.Streams.{AppendsPart}
+use Rattle.byte_streams.specs.Streams.{AppendsPart}
 use borrow.Rule.Slice.PartMut.{put_mid, post_of}
 
 -- the front of a buffer, where a part behind its first bytes was written over
