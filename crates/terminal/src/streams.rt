@@ -1,5 +1,5 @@
 //! One call from the first byte of a sheet to the last of its output: read from a source, settled, and written to a sink.
-ghost use Rattle.std.specs.Prelude.{◌≡◌, Some};
+ghost use Rattle.std.specs.Prelude.{ℕ, ◌<◌, List, Some, length};
 ghost use Rattle.sheet.specs.Reading.{longest};
 ghost use Rattle.byte_streams.specs.Streams.{Streams};
 ghost use Rattle.terminal.specs.Printed.{PrintedOf};
@@ -15,14 +15,18 @@ use std::alloc::Global;
 const ROOM: usize = 65_537;
 
 // The note of a sheet that is too long. It is a constant, so that this refusal needs no memory.
-const TOO_LONG: &[u8] = b"X 0 22 0 sheet\n";
+fn too_long_note() -> &'static [u8]
+    ensures { (sheet : List ℕ) → longest < length sheet → PrintedOf sheet result.now }
+{
+    b"X 0 22 0 sheet\n"
+}
 
 // Settles a sheet, and writes what is printed of it.
 fn settle_to<T: Sink>(alloc: Global, sink: &mut T, sheet: &[u8]) -> Result<(), StreamError>
     ensures { Streams PrintedOf longest (λ _. ⊥) T.fails_with (Some sheet.now) (T.contents sink.old) (T.contents sink.new) result }
 {
     if sheet.len() > LONGEST {
-        return write_all(sink, TOO_LONG);
+        return write_all(sink, too_long_note());
     }
     let mut page = Vec::new(alloc);
     settle(&mut page, sheet)?;
