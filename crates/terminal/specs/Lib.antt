@@ -2,4 +2,3 @@ pub mod Pages
 pub mod Printed
 pub mod Promised
 pub mod SheetLines
-pub mod Streams

@@ -1,6 +1,6 @@
 -- The whole promise over a sheet: all its commands, through however many runs, led from the opening to the table whose chips the last line tells.
 use Rattle.std.specs.Prelude.{◌≡◌, ℕ, ◌+◌, ◌≤◌, List, map, Some, None, Ok}
-use Rattle.std.specs.List.{All, concat, flat_map}
+use Rattle.std.specs.List.{All, flat_map}
 use Rattle.refusals.specs.Refusals.{first_cause}
 use Rattle.commands.specs.declared.Conditions.{Conditions}
 use Rattle.commands.specs.Calls.{Open}
