@@ -1,5 +1,8 @@
 // Opening a table with an empty history, and performing a call on it.
-ghost use Rattle.std.specs.Prelude.{◌≡◌};
+ghost use Rattle.std.specs.Prelude.{◌≡◌, IfOk, IfErr};
+ghost use Rattle.commands.specs.Calls.{call_of};
+ghost use Rattle.ledger.specs.Rolls.{free};
+ghost use Rattle.table.specs.Performing.{Performed};
 
 use crate::histories::History;
 use crate::past_calls::PastCall;
@@ -31,7 +34,7 @@ impl<'a, G: Game + Drop> History<'a, G> {
 }
 
 impl<'a, G: Game> History<'a, G> {
-    ghost use Rattle.history.specs.Histories.{Answered};
+    ghost use Rattle.history.specs.Histories.{Adds, Same};
 
     /// Performs one command with the ledger that the caller hands in, and returns its answer.
     ///
@@ -42,7 +45,9 @@ impl<'a, G: Game> History<'a, G> {
         command: Command<'a>,
         ledger: &mut Roll<'_, Entry>,
     ) -> Result<Result<(), Refusal>, AllocError>
-        ensures { Answered G.Game self.old ledger.old command.entry result self.new ledger.new }
+        ensures performed { IfOk result (λ answer. Performed (G.rules self.old.table.game) self.old.table.books ledger.old (call_of command.entry) answer self.new.table.books ledger.new) }
+        ensures history { IfOk result (λ answer. Adds G.Game self.old (free ledger.old) command.entry answer self.new) }
+        ensures unchanged { IfErr result (λ _. Same G.Game self.old self.new × (ledger.new ≡ ledger.old)) }
     {
         self.calls.reserve(1)?;
         let free = ledger.free();

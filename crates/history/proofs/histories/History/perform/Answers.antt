@@ -18,14 +18,13 @@ invariant_of-self-2 g c =
       few_withdrawn = omega (arith, h.few_withdrawn, k.long, c.withdrawn.type_inv, c.from-2.ensures);
     }
 
-pub returns : goal.returns
-returns g c =
+pub returns-clause-history : goal.returns-clause-history
+returns-clause-history g c =
     let h = c.args.self.now in
     let p : PastCall = record { command = c.args.command; free = c.free-free.result; answer = c.perform-answer.result } in
     let more = c.push_reserved.ensures.items ∙ ap (λ ps. ps ++ p ∷ []) c.in_ok-reserve.ensures.items in
     let k = grown g.G.Game.rules h.table.game _ c.perform-answer.ensures.game h.opening h.calls.items _ p more _ _ c.args.ledger.now _ h.reached c.perform-answer.ensures.performed c.free-free.ensures in
     record {
-      performed = c.perform-answer.ensures.performed;
       calls = more ∙ ap (λ n. h.calls.items ++ record { command = c.args.command; free = n; answer = c.perform-answer.result } ∷ []) c.free-free.ensures;
       turns = k.turns;
       game = c.perform-answer.ensures.game;
