@@ -1,5 +1,5 @@
 -- A newly opened table is sound, and the empty history leads to it.
-use Rattle.std.proofs.Common.{◌≡◌, ℕ, ◌≤◌, false, ◌||◌, eqb, ltb, [], refl, arith}
+use Rattle.std.proofs.Common.{◌≡◌, ◌≤◌, false, ◌||◌, eqb, ltb, [], refl, arith}
 use Rattle.std.proofs.lemmas.Bool.{false≢true, ltb-false, eqb-false, or_parts}
 use Rattle.refusals.specs.Refusals.{first_cause, Answers}
 use Rattle.refusals.proofs.Causes.{answers}

@@ -1,5 +1,5 @@
 -- What holds of any history and the table it led to: one more call keeps it.
-use Rattle.std.proofs.Common.{◌≡◌, ℕ, ◌+◌, ◌-◌, ◌<◌, ◌≤◌, Bool, true, false, cond, not, ◌&&◌, ltb, leb, List, [], ◌∷◌, ◌++◌, map, length, get_or, take, set, is_ok, is_some, Some, None, Ok, Err, sum, Option, Result, filter, sym, refl, ap, ◌∙◌, subst, ⊎_elim, arith}
+use Rattle.std.proofs.Common.{◌≡◌, ℕ, ◌+◌, ◌-◌, ◌<◌, ◌≤◌, Bool, true, false, cond, not, ◌&&◌, ltb, leb, List, [], ◌∷◌, ◌++◌, map, length, get_or, set, is_ok, is_some, Some, None, Ok, Err, sum, Option, Result, filter, sym, refl, ap, ◌∙◌, subst, ⊎_elim, arith}
 use Rattle.std.specs.List.{AllByRecursion as All}
 use Rattle.std.proofs.lemmas.List.{get_or-set_same, get_or-set_other, take-append-le, take_at, get_or_append_left, get_or_at, length-append}
 use Rattle.std.proofs.lemmas.Int.{ints}
@@ -15,7 +15,6 @@ use Rattle.game.specs.declared.choice.Choice.{Choice}
 use Rattle.game.specs.declared.choice.Choice.TheVariants.{Open as open_choice, Raised, Left}
 use Rattle.game.specs.Rules as game
 use Rattle.game.specs.Rules.{Rules, Facts, added, deal}
-use Rattle.ledger.specs.declared.entries.Entry.{Entry}
 use Rattle.ledger.specs.Entries.{entered}
 use Rattle.books.specs.declared.seat.Seat.{Seat}
 use Rattle.books.specs.declared.stage.Round.{Round}

@@ -6,11 +6,13 @@ ghost use Rattle.game.specs.Rules.{deal_of};
 ghost use Rattle.books.specs.declared.stage.Stage.TheVariants.{Dealt};
 ghost use Rattle.books.specs.Books.{seat_at};
 ghost use Rattle.table.specs.Calls.{Did, either};
+ghost use Rattle.table.specs.Effects.{return_to};
 ghost use Rattle.table.specs.Entries.{writes};
 ghost use Rattle.table.specs.Holdings.{one_if, does_stake};
 ghost use Rattle.table.specs.Steps.{settle_seat, entry_at, May};
 
 use crate::holdings::{Table, does_stake};
+use books::seat::Seat;
 use books::stage::Stage;
 use game::deal::Deal;
 use game::interface::Game;
@@ -19,6 +21,13 @@ use ledger::rolls::Roll;
 use refusals::{Cause, Refusal};
 
 impl<G: Game> Table<G> {
+    // What the game returns to the seat at a place, for its own stakes and its own choice.
+    fn returned_to(&self, k: usize, seat: &Seat, deal: &Deal<'_>) -> u64
+        ensures { result ≡ return_to (G.rules self.now.game) (deal_of deal.now) k seat.now }
+    {
+        self.game.returns(k, &seat.stakes, seat.choice, deal)
+    }
+
     // Settles one seat, which goes by its place as the loop over them does. One that does not stake only has its choice ended.
     fn settle_seat(&mut self, k: usize, deal: &Deal<'_>, ledger: &mut Roll<'_, Entry>)
         requires seat { k < 7 }
@@ -35,7 +44,7 @@ impl<G: Game> Table<G> {
             self.books.seats[k].end_choice();
             return;
         }
-        let returned = self.game.returns(k, &s.stakes, s.choice, deal);
+        let returned = self.returned_to(k, &s, deal);
         self.books.serve(k, returned, ledger);
     }
 

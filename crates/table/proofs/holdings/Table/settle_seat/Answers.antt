@@ -16,5 +16,5 @@ invariant_of-self-2 g c =
     let t = c.args.self.now in
     record {
       sound = settled_sound _ (g.met.G.Game.facts t.game) t.books c.args.k t.sound c.requires.seat (deal_of c.args.deal.now) c.requires.dealt c.requires.may _
-          (c.serve.ensures.books ∙ ap (served t.books c.args.k) c.returns-returned.ensures);
+          (c.serve.ensures.books ∙ ap (served t.books c.args.k) c.returned_to-returned.ensures);
     }

@@ -1,0 +1,4 @@
+pub mod Turns
+pub mod Single
+pub mod Histories
+pub mod Positions

@@ -1,0 +1,47 @@
+// A sheet performed on a table of any game, command by command, with what is printed of each.
+ghost use Rattle.std.specs.Prelude.{◌≡◌, ℕ, ◌≤◌, ◌++◌, length, OnOk};
+ghost use Rattle.commands.specs.Calls.{call_of};
+ghost use Rattle.ledger.specs.Rolls.{places};
+ghost use Rattle.history.specs.Histories.{Adds, rules_at, turns_at};
+ghost use Rattle.sheet.specs.Items.{items_of};
+ghost use Rattle.sheet.specs.Reading.{longest};
+ghost use Rattle.table.specs.Causes.{verdict};
+ghost use Rattle.trace.specs.Traces.{Stepped, step_text, trace_text};
+
+use crate::steps::{Standing, Step};
+use commands::Command;
+use game::interface::Game;
+use history::histories::History;
+use ledger::entries::Entry;
+use ledger::notes::Note;
+use ledger::rolls::Roll;
+use lines::printed::{Printed, print_all};
+use sheet::reader::Reader;
+use std::alloc::AllocError;
+
+/// Performs one command with the ledger emptied first, and prints it with its answer, the entries that it wrote, and where the chips lie then.
+pub fn step<'a, G: Game>(
+    page: &mut Vec<u8>,
+    place: usize,
+    command: Command<'a>,
+    history: &mut History<'a, G>,
+    ledger: &mut Roll<'_, Entry>,
+) -> Result<(), AllocError>
+    ensures printed { OnOk result (page.new.items ≡ page.old.items ++ step_text (rules_at G.Game history.old) history.old.opening (places ledger.old) (turns_at G.Game history.old) history.old.table.books place (call_of command.entry)) }
+    ensures history { OnOk result (Stepped G.Game history.old (places ledger.old) (call_of command.entry) history.new) }
+    ensures places { places ledger.new ≡ places ledger.old }
+{
+    ledger.clear();
+    let answer = history.perform(command, ledger)?;
+    Step {
+        place,
+        name: command.name(),
+        answer,
+    }
+    .print(page)?;
+    print_all(page, ledger.records())?;
+    Standing {
+        position: history.position(),
+    }
+    .print(page)
+}
