@@ -2,3 +2,4 @@ mod Cards
 mod Alike
 mod Fronts
 mod Parted
+mod Lower

@@ -2,7 +2,7 @@
 ghost use Rattle.std.specs.Prelude.{◌≡◌, ◌^◌, ◌<◌, sum};
 ghost use Rattle.poker.specs.Posting.{largest};
 ghost use Rattle.poker.specs.Fortune.{fortune_opens, fortune_outcome, bonus_odds, bonus, posted_odds, pair_plus_return, fortune_spaces, fortune_ceiling, rules_of};
-ghost use Rattle.poker.specs.Laws.{HandsDecide};
+ghost use Rattle.poker.specs.Laws.{HandsDecide, LeftGetsNothing};
 
 use crate::fortune::posted::Fortune;
 use crate::outcome::Outcome;
@@ -94,6 +94,7 @@ impl<G: ThreeGrading> Fortune<G> {
     pub fn hand_return(&self, stakes: &[u32; 5], choice: Choice, own: &[u8], bank: &[u8]) -> u64
         ensures told { result ≡ sum (fortune_spaces self.now.odds stakes.now choice own.now bank.now) }
         ensures anywhere { HandsDecide 3 (rules_of self.now) stakes.now choice own.now bank.now result }
+        ensures left { LeftGetsNothing (rules_of self.now) }
     {
         let ante = stakes::ante(stakes);
         let class = self.grading.class(own);
