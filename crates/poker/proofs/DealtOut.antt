@@ -1,15 +1,18 @@
 -- The cards of a lawful deal, hand by hand.
-use Rattle.std.proofs.Common.{◌≡◌, ℕ, zero, suc, ◌+◌, ◌*◌, ◌≤◌, Bool, true, false, cond, List, [], ◌∷◌, ◌++◌, length, get_or, take, drop, flat_map, Ok, Err, Result, OnOk, append_assoc, sym, refl, ap, ◌∙◌, arith}
+use Rattle.std.proofs.Common.{◌≡◌, ℕ, zero, suc, ◌+◌, ◌*◌, ◌≤◌, Bool, true, false, cond, eqb, List, [], ◌∷◌, ◌++◌, length, get_or, take, drop, flat_map, Ok, Err, Result, OnOk, append_assoc, sym, refl, ap, ◌∙◌, arith}
 use Rattle.std.proofs.Math.Seq.{take-length}
 use Rattle.std.proofs.lemmas.Nat.{mul-le}
+use Rattle.std.proofs.lemmas.Bool.{and_from, eq-eqb}
 use Rattle.std.proofs.lemmas.List.{drop-drop, take-append-drop, length-take-le, length-drop}
 use Rattle.std.proofs.lemmas.List.Sums.{sum_by-cons, sum_by-take-drop}
 use Rattle.game.specs.Rules.{Deal}
 use Rattle.game.specs.declared.dealing.Misdeal.{Misdeal}
 use Rattle.game.proofs.Judged.{judged_lawful}
+use Rattle.grading.specs.Admission.{is_hand}
 use Rattle.grading.specs.Cards.{different_cards}
-use Rattle.poker.specs.Dealing.{stakers, hand_at, bank_hand, dealing}
-use Rattle.poker.specs.Laws.{dealt_to, seats, IsDealtOut}
+use Rattle.poker.specs.Dealing.{stakers, hand_at, seat_hand, bank_hand, dealing}
+use Rattle.poker.specs.Laws.{Stakes, dealt_to, seats, IsDealtOut}
+use Rattle.poker.proofs.DifferentCards.{different_in_part}
 
 -- one seat more is one staking seat more, if it stakes
 stakers_next : (k : ℕ) (staking : List Bool) → stakers (take (suc k) staking) ≡ stakers (take k staking) + cond (get_or staking k false) 1 0
@@ -56,10 +59,31 @@ module _ (n : ℕ) (d : Deal) where
       ∙ ap (λ l. dealt_to n d k ++ l) (seats_first j (suc k) end (omega (arith, e)))
       ∙ seat_first k
 
-  module _ (seven : length d.staking ≡ 7) (lawful : dealing n d ≡ Ok tt) where
-    hands : length d.cards ≡ n * stakers d.staking + n
-    hands = omega (arith, (judged_lawful (different_cards d.cards) (length d.cards) (n * (stakers d.staking + 1)) lawful).1)
+  module _ (lawful : dealing n d ≡ Ok tt) where
+    -- a hand for each staking seat and the bank
+    count : length d.cards ≡ n * stakers d.staking + n
+    count = omega (arith, (judged_lawful (different_cards d.cards) (length d.cards) (n * (stakers d.staking + 1)) lawful).1)
 
+    different : (place : ℕ) → different_cards (hand_at n place d.cards) ≡ true
+    different place = different_in_part (n * place) n d.cards (judged_lawful (different_cards d.cards) (length d.cards) (n * (stakers d.staking + 1)) lawful).0
+
+    -- a seat that stakes holds n different cards
+    pub seat_of_lawful : (seat : ℕ) → Stakes d seat → is_hand n (seat_hand n seat d) ≡ true
+    seat_of_lawful seat stakes =
+        let before : stakers (take (suc seat) d.staking) ≡ stakers (take seat d.staking) + 1 = stakers_next seat d.staking ∙ ap (λ b. stakers (take seat d.staking) + cond b 1 0) stakes in
+        let among : stakers (take seat d.staking) + 1 ≤ stakers d.staking = omega (arith, before, sum_by-take-drop (λ (b : Bool). cond b 1 0) d.staking (suc seat)) in
+        let upto : n * (stakers (take seat d.staking) + 1) ≤ n * stakers d.staking = mul-le n (stakers (take seat d.staking) + 1) n (stakers d.staking) (omega arith) among in
+        let whole : length (seat_hand n seat d) ≡ n =
+        length-take-le n (drop (n * stakers (take seat d.staking)) d.cards) (omega (arith, length-drop (n * stakers (take seat d.staking)) d.cards, count, upto)) in
+        and_from (different_cards (seat_hand n seat d)) (eqb (length (seat_hand n seat d)) n) (different (stakers (take seat d.staking))) (eq-eqb (length (seat_hand n seat d)) n whole)
+
+    -- so does the bank
+    pub bank_of_lawful : is_hand n (bank_hand n d) ≡ true
+    bank_of_lawful =
+        let whole : length (bank_hand n d) ≡ n = length-take-le n (drop (n * stakers d.staking) d.cards) (omega (arith, length-drop (n * stakers d.staking) d.cards, count)) in
+        and_from (different_cards (bank_hand n d)) (eqb (length (bank_hand n d)) n) (different (stakers d.staking)) (eq-eqb (length (bank_hand n d)) n whole)
+
+  module _ (seven : length d.staking ≡ 7) (lawful : dealing n d ≡ Ok tt) where
     none_before : cards_from 0 ≡ d.cards
     none_before = let none : n * 0 ≡ 0 = omega arith in ap (λ m. drop m d.cards) none
 
@@ -67,28 +91,16 @@ module _ (n : ℕ) (d : Deal) where
     bank_last : bank_hand n d ≡ cards_from 7
     bank_last =
         let all : take 7 d.staking ≡ d.staking = ap (λ m. take m d.staking) (sym seven) ∙ take-length d.staking in
-        let whole : length (drop (n * stakers d.staking) d.cards) ≡ n = omega (arith, length-drop (n * stakers d.staking) d.cards, hands) in
+        let whole : length (drop (n * stakers d.staking) d.cards) ≡ n = omega (arith, length-drop (n * stakers d.staking) d.cards, count lawful) in
         ap (λ m. take m (drop (n * stakers d.staking) d.cards)) (sym whole)
         ∙ take-length (drop (n * stakers d.staking) d.cards)
         ∙ ap (λ s. drop (n * stakers s) d.cards) (sym all)
 
-    -- a seat that stakes has a whole hand
-    seat_whole : (seat : ℕ) → get_or d.staking seat false ≡ true → length (hand_at n (stakers (take seat d.staking)) d.cards) ≡ n
-    seat_whole seat stakes =
-        let next : stakers (take (suc seat) d.staking) ≡ stakers (take seat d.staking) + 1 = stakers_next seat d.staking ∙ ap (λ b. stakers (take seat d.staking) + cond b 1 0) stakes in
-        let among : stakers (take seat d.staking) + 1 ≤ stakers d.staking = omega (arith, next, sum_by-take-drop (λ (b : Bool). cond b 1 0) d.staking (suc seat)) in
-        let upto : n * (stakers (take seat d.staking) + 1) ≤ n * stakers d.staking = mul-le n (stakers (take seat d.staking) + 1) n (stakers d.staking) (omega arith) among in
-        length-take-le n (drop (n * stakers (take seat d.staking)) d.cards)
-        (omega (arith, length-drop (n * stakers (take seat d.staking)) d.cards, hands, upto))
-
-    bank_whole : length (bank_hand n d) ≡ n
-    bank_whole = length-take-le n (drop (n * stakers d.staking) d.cards) (omega (arith, length-drop (n * stakers d.staking) d.cards, hands))
-
     pub dealt_out : IsDealtOut n d
     dealt_out = record {
       in_order = ap (λ l. flat_map (dealt_to n d) seats ++ l) bank_last ∙ seats_first 7 0 7 refl ∙ none_before;
-      seat_size = seat_whole;
-      bank_size = bank_whole;
+      seat = seat_of_lawful lawful;
+      bank = bank_of_lawful lawful;
     }
 
 -- a deal that is found lawful is dealt out

@@ -1,1 +1,4 @@
+mod DifferentCards
 mod DealtOut
+mod FortuneLawsKept
+mod StudLawsKept

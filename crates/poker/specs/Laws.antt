@@ -1,5 +1,6 @@
 -- What holds of both games: whose the cards are, on what a return depends, and what a seat that left gets back.
-use Rattle.std.specs.Prelude.{◌≡◌, ℕ, true, false, List, [], ◌∷◌, ◌++◌, length, flat_map, slice_index_or, if◌then◌else◌}
+use Rattle.std.specs.Prelude.{◌≡◌, ℕ, true, false, List, [], ◌∷◌, ◌++◌, flat_map, slice_index_or, if◌then◌else◌}
+use Rattle.grading.specs.Admission.{is_hand}
 use Rattle.game.specs.Rules.{Rules, Deal}
 use Rattle.game.specs.declared.choice.Choice.{Choice}
 use Rattle.game.specs.declared.choice.Choice.TheVariants.{Left}
@@ -17,11 +18,11 @@ Stakes d seat = slice_index_or d.staking seat false ≡ true
 abbrev pub dealt_to : ℕ → Deal → ℕ → List ℕ
 dealt_to n d seat = if slice_index_or d.staking seat false then seat_hand n seat d else []
 
--- the cards are, in their order, the hands of the staking seats and then the bank's, and each hand has n cards
+-- the cards are, in their order, the hands of the staking seats and then the bank's, and each of these is n different cards, which can be graded
 pub record IsDealtOut (n : ℕ) (d : Deal) : Type 0 where
   pub in_order : flat_map (dealt_to n d) seats ++ bank_hand n d ≡ d.cards
-  pub seat_size : (seat : ℕ) → Stakes d seat → length (seat_hand n seat d) ≡ n
-  pub bank_size : length (bank_hand n d) ≡ n
+  pub seat : (seat : ℕ) → Stakes d seat → is_hand n (seat_hand n seat d) ≡ true
+  pub bank : is_hand n (bank_hand n d) ≡ true
 
 -- with these stakes and this choice every seat, in every deal, that holds these n cards against these of the bank's gets back r:
 -- neither the seat's place nor anyone else's stakes, choice or cards count
