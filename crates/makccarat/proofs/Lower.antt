@@ -1,12 +1,11 @@
 -- The side with the lower final total: what is staked on it brings nothing.
-use Rattle.std.proofs.Common.{◌≡◌, ◌≢◌, ℕ, ◌<◌, List, get_or, set, Some, arith}
+use Rattle.std.proofs.Common.{◌≡◌, ◌≢◌, ℕ, ◌<◌, get_or, set, Some, arith}
 use Rattle.std.proofs.lemmas.List.{get_or-set_other}
 use Rattle.makccarat.specs.declared.posted.Makccarat.{Makccarat}
-use Rattle.makccarat.specs.declared.side.Side.{Side}
 use Rattle.makccarat.specs.declared.side.Side.TheVariants.{Player, Banker}
 use Rattle.makccarat.specs.Round.{higher, winner, final_total}
-use Rattle.makccarat.specs.Payment.{player_stake, banker_stake, tie_stake, player_pair_stake, banker_pair_stake, rules_of}
-use Rattle.makccarat.specs.Laws.{LowerBringsNothing, without}
+use Rattle.makccarat.specs.Payment.{rules_of}
+use Rattle.makccarat.specs.Laws.{LowerBringsNothing}
 
 banker_wins : (player banker : ℕ) → player < banker → higher player banker ≡ Some Banker
 banker_wins player banker h = grind arith
