@@ -3,3 +3,4 @@ mod Alike
 mod Fronts
 mod Parted
 mod Lower
+mod TwoWays

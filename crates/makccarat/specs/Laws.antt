@@ -36,9 +36,10 @@ pub record EqualsByAdding (cs : List ℕ) (s : Side) : Type 0 where
   pub lower : first_total cs s < first_total cs (other s)
   pub equals : total (first_two cs s ++ fifth cs ∷ []) ≡ first_total cs (other s)
 
--- the two ways differ only where a side equals the other by adding: there the first way calls for six cards, and the second for five
+-- the two ways differ only where a side equals the other by adding: there the first way calls for six cards, and the second for five; elsewhere they call for equally many, and the final totals are the same
 pub record WaysCompared (cs : List ℕ) : Type 0 where
   pub alike : ((s : Side) → ¬ EqualsByAdding cs s) → called First cs ≡ called Second cs
+  pub totals : ((s : Side) → ¬ EqualsByAdding cs s) → (t : Side) → final_total First cs t ≡ final_total Second cs t
   pub apart : (s : Side) → EqualsByAdding cs s → (called First cs ≡ 6) × (called Second cs ≡ 5)
 
 -- with these stakes every seat, in every deal of these cards, gets back r: neither the seat's number nor who else stakes counts

@@ -70,6 +70,7 @@ fn answered(way: Way, cards: &[u8], adder: Side) -> bool
 }
 
 /// Returns how many cards the round calls for, four to six; the two ways differ only where the side that added equals the other by it.
+#[tactic(auto, using(crate::proofs::TwoWays::ways_compared))]
 pub fn called(way: Way, cards: &[u8]) -> usize
     ensures number { result ≡ called way cards.now }
     ensures ways { WaysCompared cards.now }
