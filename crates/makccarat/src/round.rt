@@ -81,7 +81,7 @@ pub fn called(way: Way, cards: &[u8]) -> usize
     }
 }
 
-// A side's total over all its cards.
+/// Returns a side's total over all its cards: the last digit of their points.
 pub fn final_total(way: Way, cards: &[u8], side: Side) -> u8
     ensures { result ≡ final_total way cards.now side }
 {
@@ -115,7 +115,7 @@ pub fn winner(way: Way, cards: &[u8]) -> Option<Side>
     )
 }
 
-// Whether a side's first two cards are of one rank.
+/// Returns whether a side's first two cards are of one rank.
 pub fn pair(cards: &[u8], side: Side) -> bool
     ensures { result ≡ pair cards.now side }
 {
@@ -123,7 +123,7 @@ pub fn pair(cards: &[u8], side: Side) -> bool
     rank_of(one) == rank_of(two)
 }
 
-// Whether the cards are a lawful deal.
+/// Returns `Ok` where the cards are a lawful deal, which is cards alone and as many as are called for; refuses 12 before 13.
 pub fn dealing(way: Way, cards: &[u8]) -> Result<(), Misdeal>
     ensures { result ≡ dealing way cards.now }
 {

@@ -1,4 +1,4 @@
 mod DifferentCards
 mod DealtOut
-mod FortuneLawsKept
-mod StudLawsKept
+mod FortuneLemmas
+mod StudLemmas

@@ -5,7 +5,7 @@ use Rattle.game.specs.Rules.{Deal}
 use Rattle.game.specs.declared.choice.Choice.TheVariants.{Open, Raised}
 use Rattle.poker.specs.Dealing.{seat_hand, bank_hand}
 use Rattle.poker.specs.Fortune.{fortune_opens, fortune_rules, bonus, pair_plus_return}
-use Rattle.poker.specs.Laws.{Stakes}
+use Rattle.poker.specs.Laws.{OrderDoesNotCount, Stakes}
 use Rattle.poker.specs.Stakes.{ante_stake, pair_plus_stake}
 
 -- what a seat's hand wins by its class alone: the bonus on the ante, and Pair Plus
@@ -22,3 +22,5 @@ pub record FortuneLaws (odds : List ℕ) : Type 0 where
       (seat : ℕ) (stakes : List ℕ) (d : Deal)
       → (fortune_rules odds).deals d ≡ Ok tt → Stakes d seat → fortune_opens (bank_hand 3 d) ≡ false
       → (fortune_rules odds).returns seat stakes Raised d ≡ 2 * ante_stake stakes + (fortune_rules odds).raise stakes + won_by_class odds stakes (seat_hand 3 seat d)
+  -- the order in which the cards of a hand lie does not count
+  pub any_order : OrderDoesNotCount 3 (fortune_rules odds)

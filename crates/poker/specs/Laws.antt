@@ -1,5 +1,6 @@
 -- What holds of both games: whose the cards are, on what a return depends, and what a seat that left gets back.
 use Rattle.std.specs.Prelude.{◌≡◌, ℕ, true, false, List, [], ◌∷◌, ◌++◌, flat_map, slice_index_or, if◌then◌else◌}
+use Rattle.std.specs.List.Sorted.{IsPermutation}
 use Rattle.grading.specs.Admission.{is_hand}
 use Rattle.game.specs.Rules.{Rules, Deal}
 use Rattle.game.specs.declared.choice.Choice.{Choice}
@@ -33,3 +34,10 @@ HandsDecide n R stakes c own bank r =
 -- a seat that left gets back nothing, whatever it staked and whatever was dealt
 abbrev pub LeftGetsNothing : Rules → Type 0
 LeftGetsNothing R = (seat : ℕ) (stakes : List ℕ) (d : Deal) → R.returns seat stakes Left d ≡ 0
+
+-- the order in which the cards of a hand lie does not count: with the same cards against the same cards of the bank's a return is the same
+abbrev pub OrderDoesNotCount : ℕ → Rules → Type 0
+OrderDoesNotCount n R =
+    (seat other : ℕ) (stakes : List ℕ) (c : Choice) (d e : Deal)
+    → IsPermutation (seat_hand n seat d) (seat_hand n other e) → IsPermutation (bank_hand n d) (bank_hand n e)
+    → R.returns seat stakes c d ≡ R.returns other stakes c e

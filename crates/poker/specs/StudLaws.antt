@@ -8,7 +8,7 @@ use Rattle.game.specs.Rules.{Deal}
 use Rattle.game.specs.declared.choice.Choice.{Choice}
 use Rattle.game.specs.declared.choice.Choice.TheVariants.{Raised}
 use Rattle.poker.specs.Dealing.{seat_hand, bank_hand}
-use Rattle.poker.specs.Laws.{Stakes}
+use Rattle.poker.specs.Laws.{OrderDoesNotCount, Stakes}
 use Rattle.poker.specs.Stakes.{ante_stake}
 use Rattle.poker.specs.Stud.{stud_opens, stud_rules}
 
@@ -23,3 +23,5 @@ pub record StudLaws (cap : ℕ) : Type 0 where
       (seat : ℕ) (stakes : List ℕ) (d : Deal)
       → (stud_rules cap).deals d ≡ Ok tt → Stakes d seat → stud_opens (bank_hand 5 d) ≡ false
       → (stud_rules cap).returns seat stakes Raised d ≡ 2 * ante_stake stakes + (stud_rules cap).raise stakes
+  -- the order in which the cards of a hand lie does not count
+  pub any_order : OrderDoesNotCount 5 (stud_rules cap)

@@ -74,7 +74,7 @@ fn largest(odds: &[u16; 5]) -> u16
 }
 
 impl<G: ThreeGrading> Fortune<G> {
-    // Whether the bank opens: with a pair or better, or odd cards headed by a queen, a king or an ace.
+    /// Returns whether the bank opens: with a pair or better, or odd cards headed by a queen, a king or an ace.
     pub fn opens(&self, bank: &[u8]) -> bool
         ensures { result ≡ fortune_opens bank.now }
     {
@@ -92,7 +92,6 @@ impl<G: ThreeGrading> Fortune<G> {
     }
 
     /// Returns what a seat with these stakes and cards gets back against these cards of the bank's, in chips, in whatever deal they lie; nothing where the seat left.
-    #[tactic(auto, using(crate::proofs::FortuneLawsKept::fortune_laws))]
     pub fn hand_return(&self, stakes: &[u32; 5], choice: Choice, own: &[u8], bank: &[u8]) -> u64
         ensures told { result ≡ sum (fortune_spaces self.now.odds stakes.now choice own.now bank.now) }
         ensures anywhere { HandsDecide 3 (rules_of self.now) stakes.now choice own.now bank.now result }

@@ -55,7 +55,7 @@ fn outcome(own: &[u8], bank: &[u8]) -> Outcome
 }
 
 impl Stud {
-    // Whether the bank opens: with a pair or better, or odd cards with both an ace and a king.
+    /// Returns whether the bank opens: with a pair or better, or odd cards with both an ace and a king.
     pub fn opens(bank: &[u8]) -> bool
         ensures { result ≡ stud_opens bank.now }
     {
@@ -69,7 +69,6 @@ impl Stud {
     }
 
     /// Returns what a seat with these stakes and cards gets back against these cards of the bank's, in chips, in whatever deal they lie; nothing where the seat left.
-    #[tactic(auto, using(crate::proofs::StudLawsKept::stud_laws))]
     pub fn hand_return(&self, stakes: &[u32; 5], choice: Choice, own: &[u8], bank: &[u8]) -> u64
         ensures told { result ≡ sum (stud_spaces self.now.cap stakes.now choice own.now bank.now) }
         ensures anywhere { HandsDecide 5 (rules_of self.now) stakes.now choice own.now bank.now result }
