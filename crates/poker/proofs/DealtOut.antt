@@ -99,8 +99,8 @@ module _ (n : ℕ) (d : Deal) where
     pub dealt_out : IsDealtOut n d
     dealt_out = record {
       in_order = ap (λ l. flat_map (dealt_to n d) seats ++ l) bank_last ∙ seats_first 7 0 7 refl ∙ none_before;
-      seat = seat_of_lawful lawful;
-      bank = bank_of_lawful lawful;
+      seat_is_hand = seat_of_lawful lawful;
+      bank_is_hand = bank_of_lawful lawful;
     }
 
 -- a deal that is found lawful is dealt out

@@ -12,6 +12,7 @@ use Rattle.poker.specs.Stakes.{ante_stake, pair_plus_stake}
 abbrev pub won_by_class : List ℕ → List ℕ → List ℕ → ℕ
 won_by_class odds stakes own = bonus (three_class own) (ante_stake stakes) + pair_plus_return odds (three_class own) (pair_plus_stake stakes)
 
+-- what holds of every round of Fortune at these odds
 pub record FortuneLaws (odds : List ℕ) : Type 0 where
   -- a seat that makes no choice, which is one without an ante, gets what Pair Plus wins by its hand, whatever the bank holds
   pub pair_plus_alone : (seat : ℕ) (stakes : List ℕ) (d : Deal) → (fortune_rules odds).returns seat stakes Open d ≡ pair_plus_return odds (three_class (seat_hand 3 seat d)) (pair_plus_stake stakes)

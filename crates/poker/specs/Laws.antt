@@ -22,8 +22,8 @@ dealt_to n d seat = if slice_index_or d.staking seat false then seat_hand n seat
 -- the cards are, in their order, the hands of the staking seats and then the bank's, and each of these is n different cards, which can be graded
 pub record IsDealtOut (n : ℕ) (d : Deal) : Type 0 where
   pub in_order : flat_map (dealt_to n d) seats ++ bank_hand n d ≡ d.cards
-  pub seat : (seat : ℕ) → Stakes d seat → is_hand n (seat_hand n seat d) ≡ true
-  pub bank : is_hand n (bank_hand n d) ≡ true
+  pub seat_is_hand : (seat : ℕ) → Stakes d seat → is_hand n (seat_hand n seat d) ≡ true
+  pub bank_is_hand : is_hand n (bank_hand n d) ≡ true
 
 -- with these stakes and this choice every seat, in every deal, that holds these n cards against these of the bank's gets back r:
 -- neither the seat's place nor anyone else's stakes, choice or cards count

@@ -12,6 +12,7 @@ use Rattle.poker.specs.Laws.{OrderDoesNotCount, Stakes}
 use Rattle.poker.specs.Stakes.{ante_stake}
 use Rattle.poker.specs.Stud.{stud_opens, stud_rules}
 
+-- what holds of every round of Stud at this cap
 pub record StudLaws (cap : ℕ) : Type 0 where
   -- with four of a kind or better a seat gets back at most its ante twice, its raise and the cap
   pub capped :
