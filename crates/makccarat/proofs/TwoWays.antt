@@ -1,5 +1,5 @@
 -- The two ways compared: they differ only where a side equals the other by the card that it adds.
-use Rattle.std.proofs.Common.{◌≡◌, ◌≢◌, ℕ, ◌<◌, ◌≤◌, true, false, cond, List, [], ◌∷◌, ◌++◌, Some, None, Option, refl, ap, ◌∙◌, arith}
+use Rattle.std.proofs.Common.{if◌then◌else◌, ◌≡◌, ◌≢◌, ℕ, ◌<◌, ◌≤◌, true, false, List, [], ◌∷◌, ◌++◌, Some, None, Option, refl, ap, ◌∙◌, arith}
 use Rattle.std.proofs.lemmas.Bool.Decides.{nat_tests}
 use Rattle.makccarat.specs.declared.side.Side.{Side}
 use Rattle.makccarat.specs.declared.side.Side.TheVariants.{Player, Banker}
@@ -35,11 +35,11 @@ module _ (cs : List ℕ) where
 
   called_alike : (o : Option Side) → ((s : Side) → o ≡ Some s → answered First cs s ≡ answered Second cs s) → called_after First cs o ≡ called_after Second cs o
   called_alike None alike = refl
-  called_alike (Some s) alike = ap (λ b. cond {A = ℕ} b 6 5) (alike s refl)
+  called_alike (Some s) alike = ap (λ b. if b then 6 else 5) (alike s refl)
 
   added_alike : (t : Side) (o : Option Side) → ((s : Side) → o ≡ Some s → answered First cs s ≡ answered Second cs s) → added_after First cs t o ≡ added_after Second cs t o
   added_alike t None alike = refl
-  added_alike t (Some s) alike = ap (λ b. cond (same t s) (fifth cs ∷ []) (cond b (sixth cs ∷ []) [])) (alike s refl)
+  added_alike t (Some s) alike = ap (λ b. if same t s then fifth cs ∷ [] else (if b then sixth cs ∷ [] else [])) (alike s refl)
 
   pub ways_compared : WaysCompared cs
   ways_compared = record {
@@ -47,7 +47,7 @@ module _ (cs : List ℕ) where
     totals = λ none t. ap (λ more. total (first_two cs t ++ more)) (added_alike t (adder cs) (answered_alike none));
     apart = λ s e.
         let p = answers_apart (first_total cs s) (total (first_two cs s ++ fifth cs ∷ [])) (first_total cs (other s)) e.lower e.equals in (
-          ap (called_after First cs) e.adds ∙ ap (λ b. cond {A = ℕ} b 6 5) p.0,
-          ap (called_after Second cs) e.adds ∙ ap (λ b. cond {A = ℕ} b 6 5) p.1,
+          ap (called_after First cs) e.adds ∙ ap (λ b. if b then 6 else 5) p.0,
+          ap (called_after Second cs) e.adds ∙ ap (λ b. if b then 6 else 5) p.1,
         );
   }

@@ -1,5 +1,5 @@
 -- The cards of a lawful deal, hand by hand.
-use Rattle.std.proofs.Common.{◌≡◌, ℕ, zero, suc, ◌+◌, ◌*◌, ◌≤◌, Bool, true, false, cond, eqb, List, [], ◌∷◌, ◌++◌, length, get_or, take, drop, flat_map, Ok, Err, Result, OnOk, append_assoc, sym, refl, ap, ◌∙◌, arith}
+use Rattle.std.proofs.Common.{if◌then◌else◌, ◌==◌, slice_index_or, ◌≡◌, ℕ, zero, suc, ◌+◌, ◌*◌, ◌≤◌, Bool, true, false, List, [], ◌∷◌, ◌++◌, length, take, drop, flat_map, Ok, Err, Result, OnOk, append_assoc, sym, refl, ap, ◌∙◌, arith}
 use Rattle.std.proofs.Math.Seq.{take-length}
 use Rattle.std.proofs.lemmas.Nat.{mul-le}
 use Rattle.std.proofs.lemmas.Bool.{and_from, eq-eqb}
@@ -15,16 +15,16 @@ use Rattle.poker.specs.Laws.{Stakes, dealt_to, seats, IsDealtOut}
 use Rattle.poker.proofs.DifferentCards.{different_in_part}
 
 -- one seat more is one staking seat more, if it stakes
-stakers_next : (k : ℕ) (staking : List Bool) → stakers (take (suc k) staking) ≡ stakers (take k staking) + cond (get_or staking k false) 1 0
+stakers_next : (k : ℕ) (staking : List Bool) → stakers (take (suc k) staking) ≡ stakers (take k staking) + (if slice_index_or staking k false then 1 else 0)
 stakers_next zero [] = refl
 stakers_next (suc k) [] = refl
-stakers_next zero (b ∷ staking) = omega (arith, sum_by-cons (λ (x : Bool). cond x 1 0) b [])
+stakers_next zero (b ∷ staking) = omega (arith, sum_by-cons (λ (x : Bool). if x then 1 else 0) b [])
 stakers_next (suc k) (b ∷ staking) =
     omega (
       arith,
       stakers_next k staking,
-      sum_by-cons (λ (x : Bool). cond x 1 0) b (take (suc k) staking),
-      sum_by-cons (λ (x : Bool). cond x 1 0) b (take k staking),
+      sum_by-cons (λ (x : Bool). if x then 1 else 0) b (take (suc k) staking),
+      sum_by-cons (λ (x : Bool). if x then 1 else 0) b (take k staking),
     )
 
 -- the numbers from k on, j of them
@@ -39,12 +39,12 @@ module _ (n : ℕ) (d : Deal) where
 
   -- a seat's cards are the first of them, and those of the seats behind it follow
   seat_first : (k : ℕ) → dealt_to n d k ++ cards_from (suc k) ≡ cards_from k
-  seat_first k = by_stake (get_or d.staking k false) (stakers_next k d.staking)
+  seat_first k = by_stake (slice_index_or d.staking k false) (stakers_next k d.staking)
     where
       before : ℕ
       before = stakers (take k d.staking)
 
-      by_stake : (b : Bool) → stakers (take (suc k) d.staking) ≡ before + cond b 1 0 → cond b (hand_at n before d.cards) [] ++ cards_from (suc k) ≡ cards_from k
+      by_stake : (b : Bool) → stakers (take (suc k) d.staking) ≡ before + (if b then 1 else 0) → (if b then hand_at n before d.cards else []) ++ cards_from (suc k) ≡ cards_from k
       by_stake true next =
           let more : n * before + n ≡ n * stakers (take (suc k) d.staking) = rw next (omega arith) in
           ap (λ l. take n (cards_from k) ++ l) (sym (drop-drop n (n * before) d.cards ∙ ap (λ m. drop m d.cards) more))
@@ -70,18 +70,18 @@ module _ (n : ℕ) (d : Deal) where
     -- a seat that stakes holds n different cards
     pub seat_of_lawful : (seat : ℕ) → Stakes d seat → is_hand n (seat_hand n seat d) ≡ true
     seat_of_lawful seat stakes =
-        let before : stakers (take (suc seat) d.staking) ≡ stakers (take seat d.staking) + 1 = stakers_next seat d.staking ∙ ap (λ b. stakers (take seat d.staking) + cond b 1 0) stakes in
-        let among : stakers (take seat d.staking) + 1 ≤ stakers d.staking = omega (arith, before, sum_by-take-drop (λ (b : Bool). cond b 1 0) d.staking (suc seat)) in
+        let before : stakers (take (suc seat) d.staking) ≡ stakers (take seat d.staking) + 1 = stakers_next seat d.staking ∙ ap (λ b. stakers (take seat d.staking) + (if b then 1 else 0)) stakes in
+        let among : stakers (take seat d.staking) + 1 ≤ stakers d.staking = omega (arith, before, sum_by-take-drop (λ (b : Bool). if b then 1 else 0) d.staking (suc seat)) in
         let upto : n * (stakers (take seat d.staking) + 1) ≤ n * stakers d.staking = mul-le n (stakers (take seat d.staking) + 1) n (stakers d.staking) (omega arith) among in
         let whole : length (seat_hand n seat d) ≡ n =
         length-take-le n (drop (n * stakers (take seat d.staking)) d.cards) (omega (arith, length-drop (n * stakers (take seat d.staking)) d.cards, count, upto)) in
-        and_from (different_cards (seat_hand n seat d)) (eqb (length (seat_hand n seat d)) n) (different (stakers (take seat d.staking))) (eq-eqb (length (seat_hand n seat d)) n whole)
+        and_from (different_cards (seat_hand n seat d)) (length (seat_hand n seat d) == n) (different (stakers (take seat d.staking))) (eq-eqb (length (seat_hand n seat d)) n whole)
 
     -- so does the bank
     pub bank_of_lawful : is_hand n (bank_hand n d) ≡ true
     bank_of_lawful =
         let whole : length (bank_hand n d) ≡ n = length-take-le n (drop (n * stakers d.staking) d.cards) (omega (arith, length-drop (n * stakers d.staking) d.cards, count)) in
-        and_from (different_cards (bank_hand n d)) (eqb (length (bank_hand n d)) n) (different (stakers d.staking)) (eq-eqb (length (bank_hand n d)) n whole)
+        and_from (different_cards (bank_hand n d)) (length (bank_hand n d) == n) (different (stakers d.staking)) (eq-eqb (length (bank_hand n d)) n whole)
 
   module _ (seven : length d.staking ≡ 7) (lawful : dealing n d ≡ Ok tt) where
     none_before : cards_from 0 ≡ d.cards
