@@ -62,7 +62,7 @@ def tried(crate, copy, bugs):
         if not text.startswith("refused, as it must be:") or not m:
             answers.append((None, text))
             continue
-        goal = re.search(r"`([^`]+)`", m.group(3))
+        goal = re.search(r"\(`([^`]+)`\)", m.group(3)) or re.search(r"`([^`]+)`", m.group(3))
         where = copy / "crates" / crate / m.group(1)
         by = function_at(where, int(m.group(2))) if where.suffix == ".rt" else m.group(1).removeprefix("./")
         answers.append((f"{by}, {goal.group(1) if goal else m.group(3)[:60]}", text))
