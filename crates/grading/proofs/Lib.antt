@@ -6,5 +6,6 @@ mod Finite
 mod FiveChecked
 pub mod InOrder
 pub mod Laws
+mod LeastCause
 mod Shuffles
 mod ThreeChecked
