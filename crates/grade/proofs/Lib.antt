@@ -1,0 +1,3 @@
+mod KeptCards
+mod KeptLines
+mod Parts
