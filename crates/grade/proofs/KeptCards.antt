@@ -1,16 +1,16 @@
 -- What is kept of a hand's cards decides its answer.
-use Rattle.std.proofs.Common.{◌≡◌, ℕ, ◌+◌, ◌<◌, ◌≤◌, Bool, true, false, cond, not, ◌&&◌, ◌||◌, eqb, List, [], ◌∷◌, ◌++◌, length, take, drop, set, get_or, Err, Result, add-zero, sym, refl, ap, ◌∙◌, ⊎_elim, ◌⊎◌, inl, inr, arith}
-use Rattle.std.proofs.lemmas.Bool.{and_parts, cases_Bool, cases_lt, cases_eq, ne_eqb, both_ways}
+use Rattle.std.proofs.Common.{◌≡◌, ℕ, ◌+◌, ◌<◌, ◌≤◌, Bool, true, false, cond, not, ◌&&◌, ◌||◌, eqb, List, [], ◌∷◌, ◌++◌, length, take, drop, set, get_or, Err, add-zero, sym, refl, ap, ◌∙◌, ⊎_elim, ◌⊎◌, inl, inr, arith}
+use Rattle.std.proofs.lemmas.Bool.{cases_Bool, cases_lt, cases_eq, ne_eqb, both_ways}
 use Rattle.std.proofs.lemmas.Bool.Decides.{nat_tests}
 use Rattle.std.proofs.lemmas.List.{take_all, take-append-le, take-append-drop, length-take-le, get_or-set_same, get_or-set_other}
 use Rattle.refusals.specs.Refusals.{refused}
 use Rattle.refusals.specs.declared.Cause.TheVariants.{NoCard, WrongCount}
 use Rattle.grading.specs.Cards.{is_card, copies_of, different_cards}
-use Rattle.grading.specs.Grading.{three_class, three_compared, five_class, five_compared}
+use Rattle.grading.specs.Grading.{three_class, five_class}
 use Rattle.grading.proofs.Different.{copies_snoc, different_snoc, different_front}
 use Rattle.grading.proofs.Refused.{three_class_no_card, five_class_no_card, three_class_wrong_count, five_class_wrong_count, three_compared_no_card, five_compared_no_card, three_compared_wrong_count, five_compared_wrong_count}
 use Rattle.grade.specs.Answers.{made, one_graded, two_graded, one_hand, two_hands}
-use Rattle.grade.specs.Typed.{Keeps, KeepsCards, kept}
+use Rattle.grade.specs.Typed.{Keeps, kept}
 use Rattle.grade.specs.declared.answers.Answer.TheVariants.{Threes, Fives}
 use Rattle.grade.specs.declared.hand.TypedHand.{TypedHand}
 
@@ -157,10 +157,13 @@ one_more old new cards card within room f s first test k =
     passes_of : (is seen none : Bool) → seen ≡ not none → (not is || seen) ≡ false → (is && none) ≡ true
     passes_of true seen none e t = not_false none (sym e ∙ t)
     passes_of false seen none e t = cc
+
     more : (n : ℕ) → eqb (n + 1) 0 ≡ false
     more n = grind (arith, nat_tests)
+
     itself : (c : ℕ) → eqb c c ≡ true
     itself c = grind (arith, nat_tests)
+
     seen_at : (c : ℕ) → c < 256 → ((d : ℕ) → d < 256 → get_or old.seen d false ≡ not (eqb (copies_of d cards) 0)) → get_or (set old.seen card true) c false ≡ not (eqb (copies_of c (cards ++ card ∷ [])) 0)
     seen_at c below seen =
         ⊎_elim

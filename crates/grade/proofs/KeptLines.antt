@@ -1,5 +1,5 @@
 -- What is kept of a line decides its answer.
-use Rattle.std.proofs.Common.{◌≡◌, ℕ, suc, ◌+◌, ◌-◌, ◌<◌, Bool, true, false, cond, not, ◌&&◌, eqb, ltb, List, [], ◌∷◌, ◌++◌, length, map, take, drop, Some, None, Ok, Option, Result, sym, refl, ap, ◌∙◌, subst, arith}
+use Rattle.std.proofs.Common.{◌≡◌, ℕ, suc, ◌+◌, Bool, true, false, cond, not, ◌&&◌, eqb, ltb, List, [], ◌∷◌, ◌++◌, length, map, Some, None, Ok, Option, Result, sym, refl, ap, ◌∙◌, subst, arith}
 use Rattle.std.specs.List.{list_all, prefix_len, slice_split, filter}
 use Rattle.std.specs.Option.{unwrap_or}
 use Rattle.std.proofs.Math.Seq.{take-append_seam, drop-append-add}
@@ -12,7 +12,7 @@ use Rattle.grade.specs.Answers.{made, one_hand, two_hands, by_bar, text_answer, 
 use Rattle.grade.specs.declared.answers.Answer.{Answer}
 use Rattle.grade.specs.Lines.{is_blank, is_word, card_read, cards_read, bar_at, bar_of}
 use Rattle.grade.specs.Words.{card_named}
-use Rattle.grade.specs.Typed.{word_of, Keeps, KeepsAll, Typed, NoBar, TypedBehindBar, TypedLine}
+use Rattle.grade.specs.Typed.{word_of, Keeps, KeepsAll, Typed, NoBar, TypedLine}
 use Rattle.grade.specs.declared.hand.TypedHand.{TypedHand}
 use Rattle.grade.specs.declared.words.Word.{Word}
 use Rattle.grade.specs.declared.words.Word.TheVariants.{Empty}

@@ -2,7 +2,6 @@
 use Rattle.std.specs.Prelude.{◌≡◌, ℕ, ◌⊎◌, List, [], ◌++◌, Ok, Err, codes, decimal, Result}
 use Rattle.refusals.specs.Refusals.{number_of, refused}
 use Rattle.refusals.specs.declared.Cause.{Cause}
-use Rattle.refusals.specs.declared.Cause.TheVariants as Cause
 use Rattle.refusals.specs.declared.Refusal.{Refusal}
 use Rattle.grade.specs.declared.faults.Fault.{Fault}
 use Rattle.grade.specs.declared.faults.Fault.TheVariants.{NoCard, WrongCount}

@@ -1,5 +1,5 @@
 -- What is kept of a line while it is typed, and what of its bytes that stands for.
-use Rattle.std.specs.Prelude.{◌≡◌, ℕ, ◌<◌, Bool, true, false, not, List, [], ◌∷◌, ◌++◌, length, map, take, Some, None, Option, ◌==◌}
+use Rattle.std.specs.Prelude.{◌≡◌, ℕ, ◌<◌, true, false, not, List, [], ◌∷◌, ◌++◌, map, take, Some, None, Option, ◌==◌}
 use Rattle.std.specs.List.{list_all, slice_split, filter, slice_index_or}
 use Rattle.grading.specs.Cards.{copies_of, different_cards}
 use Rattle.grade.specs.Lines.{is_blank, card_read, cards_read, is_word}

@@ -7,9 +7,8 @@ ghost use Rattle.grade.specs.Streams.{answer_said, answers_of, without_mark};
 use crate::answers::Answer;
 use crate::faults::Fault;
 use crate::line::Line;
-use std::fmt;
-use std::io;
 use std::io::{ErrorKind, Read, Write};
+use std::{fmt, io};
 
 // What editors put at the head of a text in UTF-8.
 const MARK: [u8; 3] = [0xEF, 0xBB, 0xBF];

@@ -1,8 +1,7 @@
 -- Why bytes have no class, and why two lists of them do not compare, by whether they are different cards and how many they are.
-use Rattle.std.proofs.Common.{◌≡◌, ℕ, Bool, true, false, not, ◌||◌, eqb, List, [], ◌∷◌, length, Err, Result, refl, ap, ◌∙◌}
+use Rattle.std.proofs.Common.{◌≡◌, ℕ, true, false, not, ◌||◌, eqb, List, [], ◌∷◌, length, Err, ap}
 use Rattle.refusals.specs.Refusals.{refused, first_cause}
 use Rattle.refusals.specs.declared.Cause.TheVariants.{NoCard, WrongCount}
-use Rattle.refusals.specs.declared.Refusal.{Refusal}
 use Rattle.grading.specs.Admission.{hand_causes, hands_causes, unless}
 use Rattle.grading.specs.Cards.{different_cards}
 use Rattle.grading.specs.Grading.{three_class, three_compared, five_class, five_compared}

@@ -1,4 +1,4 @@
-use Rattle.std.proofs.Common.{◌≡◌, Some, None, Ok, Err, Result, Option, subst, sym, ◌∙◌}
+use Rattle.std.proofs.Common.{Some, None, Ok, Err, subst, sym, ◌∙◌}
 use Rattle.std.proofs.lemmas.Result.{err_from_is_err_and}
 use Rattle.grade.specs.Faults.{as_refusal}
 use Rattle.grade.specs.Typed.{TypedLine}
