@@ -8,6 +8,8 @@ mod hand; // A hand as it is typed.
 mod line; // A line as it is typed.
 mod streams; // Lines from any reader, answers to any writer.
 mod words; // Cards as people write them.
+#[cfg(test)]
+mod tests; // Inputs of any bytes.
 
 use std::io::{BufReader, BufWriter, Write};
 use std::process::ExitCode;
