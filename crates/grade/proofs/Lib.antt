@@ -1,0 +1,4 @@
+mod Answered
+mod KeptCards
+mod KeptLines
+mod Parts
