@@ -39,7 +39,7 @@ use Rattle.table.proofs.Totals.{total_set}
 use Rattle.table.proofs.Voiding.{voided_at, voided_total}
 
 -- what holds of each turn of a history, with one more turn of which it holds
-each_more : (P : List Turn → Turn → Type 0) (us : List Turn) (x : Turn) → P us x → Each P us → Each P (us ++ x ∷ [])
+pub each_more : (P : List Turn → Turn → Type 0) (us : List Turn) (x : Turn) → P us x → Each P us → Each P (us ++ x ∷ [])
 each_more P us x now old n u lt e =
     ⊎_elim
     (λ (before : n < length us).

@@ -7,18 +7,30 @@ use Rattle.refusals.specs.declared.Cause.TheVariants.{SheetTooLong}
 use Rattle.refusals.specs.Refusals.{refused as refused_for}
 use Rattle.sheet.specs.Reading.{longest, read_at}
 use Rattle.open_table.specs.Firsts.{first_refusal}
-use Rattle.terminal.specs.Printed.{PrintedOf, empty, refused, played}
+use Rattle.terminal.specs.Printed.{LinesOf, empty, refused, played}
+use Rattle.terminal.specs.Promised.{PrintedOf}
 use Rattle.terminal.specs.Streams.{SheetRead}
 
 -- a sheet that is too long is refused from its first byte
 too_long : (sheet : List ℕ) → longest < length sheet → read_at sheet 0 ≡ Err (refused_for SheetTooLong 0)
 too_long sheet long = rw (lt-ltb longest (length sheet) long) refl
 
+-- the lines of a sheet that is too long are those of any such sheet
+long_lines : (sheet sheet' : List ℕ) → read_at sheet' 0 ≡ read_at sheet 0 → read_at sheet 0 ≡ Err (refused_for SheetTooLong 0) → (ls : List (List ℕ)) → LinesOf sheet ls → LinesOf sheet' ls
+long_lines sheet sheet' alike long _ (empty e) = empty (alike ∙ e)
+long_lines sheet sheet' alike long _ (refused e is) = refused e (is ∙ ap first_refusal (sym alike))
+long_lines sheet sheet' alike long _ (played c tray game reads accepted opens) = let no = sym reads ∙ long in absurd cc
+
 -- two sheets that are both too long print the same
 both_long : (sheet sheet' : List ℕ) → longest < length sheet → longest < length sheet' → (text : List ℕ) → PrintedOf sheet text → PrintedOf sheet' text
-both_long sheet sheet' a b _ (empty e) = empty (too_long sheet' b ∙ sym (too_long sheet a) ∙ e)
-both_long sheet sheet' a b _ (refused e is) = refused e (is ∙ ap first_refusal (too_long sheet a ∙ sym (too_long sheet' b)))
-both_long sheet sheet' a b _ (played c tray game text reads first opens prints promised) = let h = sym reads ∙ too_long sheet a in cc
+both_long sheet sheet' a b text h =
+    let alike : read_at sheet' 0 ≡ read_at sheet 0 = too_long sheet' b ∙ sym (too_long sheet a) in
+    record {
+      lines = h.lines;
+      lines_of = long_lines sheet sheet' alike (too_long sheet a) h.lines h.lines_of;
+      is = h.is;
+      promised = λ c tray game reads accepted opens. let no = sym reads ∙ too_long sheet' b in absurd cc;
+    }
 
 cut_prints : (bytes text : List ℕ) → PrintedOf (take (longest + 1) bytes) text → PrintedOf bytes text
 cut_prints bytes text h =

@@ -1,7 +1,7 @@
 -- A sheet taken from a reader of bytes, and what is printed of it given to a writer, where a contract knows the bytes of both.
 use Rattle.std.specs.Prelude.{◌≡◌, ℕ, ◌+◌, List, ◌++◌, take, Some, Option}
 use Rattle.sheet.specs.Reading.{longest}
-use Rattle.terminal.specs.Printed.{PrintedOf}
+use Rattle.terminal.specs.Promised.{PrintedOf}
 
 -- all bytes of a sheet, or the first of them: one more than a sheet may have, so that a longer one is seen to be longer; and what is printed of them is what is printed of all
 pub record SheetRead (bytes sheet : List ℕ) : Type 0 where
