@@ -6,8 +6,8 @@ use Rattle.game.specs.declared.interface.Game.{Ghosts}
 use Rattle.game.specs.Rules.{Rules}
 use Rattle.ledger.specs.declared.entries.Entry.{Entry}
 use Rattle.books.specs.declared.table_books.Books.{Books}
-use Rattle.lines.specs.Lines.{printed_entry, printed_note, lines_of}
-use Rattle.sheet.specs.Items.{Item, command, fault}
+use Rattle.lines.specs.Lines.{with_feed, printed_entry, printed_note, lines_of}
+use Rattle.sheet.specs.Items.{Item, command, fault, items_of}
 use Rattle.table.specs.declared.opening.Opening.{Opening}
 use Rattle.table.specs.Calls.{either}
 use Rattle.table.specs.Causes.{verdict}
@@ -17,7 +17,7 @@ use Rattle.table.specs.Tally.{Turn}
 use Rattle.history.specs.declared.histories.History.{History}
 use Rattle.history.specs.Histories.{rules_at, turns_at}
 use Rattle.history.specs.Positions.{position_of}
-use Rattle.trace.specs.Lines.{printed_step, printed_standing}
+use Rattle.trace.specs.Lines.{answered_line, position_text}
 
 module _ (R : Rules) (o : Opening) (free : ℕ) where
   -- the turn of a call that is made on this table with an empty ledger
@@ -31,8 +31,8 @@ module _ (R : Rules) (o : Opening) (free : ℕ) where
   -- what is printed of one command: its answer, the entries that it wrote, and where the chips lie then
   abbrev pub step_text : List Turn → Books → ℕ → Call → List ℕ
   step_text us b p c =
-      printed_step (record { place = p; name = record { ref_ptr = 0; now = name_of c }; answer = verdict R b c free })
-      ++ (lines_of printed_entry (turn_on b c).entries ++ printed_standing (record { position = position_of o (us ++ turn_on b c ∷ []) (table_after b c) }))
+      with_feed (answered_line p (name_of c) (verdict R b c free))
+      ++ (lines_of printed_entry (turn_on b c).entries ++ position_text (position_of o (us ++ turn_on b c ∷ []) (table_after b c)))
 
   -- what is printed of items, one after another; a command that cannot be read is noted, and ends it
   abbrev pub trace_text : List Turn → Books → List Item → List ℕ
@@ -46,3 +46,7 @@ pub record Stepped {G : Type 0} (g : Ghosts G) (h : History G g) (free : ℕ) (c
   pub opening : h'.opening ≡ h.opening
   pub turns : turns_at g h' ≡ turns_at g h ++ turn_on (rules_at g h) h.opening free h.table.books c ∷ []
   pub books : h'.table.books ≡ table_after (rules_at g h) h.opening free h.table.books c
+
+-- what is printed of a sheet from a place on, on a table with its history
+abbrev pub text_from : {G : Type 0} (g : Ghosts G) → History G g → ℕ → List ℕ → ℕ → List ℕ
+text_from g h free sheet p = trace_text (rules_at g h) h.opening free (turns_at g h) h.table.books (items_of sheet p)

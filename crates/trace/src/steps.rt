@@ -1,10 +1,11 @@
 // What is printed of one command: its answer, and where the chips lie then.
-ghost use Rattle.std.specs.Prelude.{Some, refl};
-ghost use Rattle.trace.specs.Lines.{step_line, standing_line, printed_step, printed_standing};
+ghost use Rattle.std.specs.Prelude.{◌≡◌, ◌++◌, Some, refl, OnOk};
+ghost use Rattle.trace.specs.Lines.{step_line, piles_line, seats_line, sums_line, printed_step, printed_piles, printed_seats, printed_sums, position_text};
 
 use history::positions::Position;
 use lines::printed::Printed;
 use refusals::Refusal;
+use std::alloc::AllocError;
 use std::fmt;
 
 // One command: the place of its first byte, its name, and its answer.
@@ -40,42 +41,96 @@ impl Printed for Step<'_> {
     ghost displayed = { λ _. refl };
 }
 
-// Where the chips lie after a command.
+// The tray, all racks together and all spaces together.
 #[derive(Clone, Copy)]
-pub struct Standing {
+pub struct Piles {
     pub position: Position,
 }
 
-impl fmt::Display for Standing {
-    ghost output = { λ s. Some (standing_line s) };
+impl fmt::Display for Piles {
+    ghost output = { λ p. Some (piles_line p.position) };
 
     fn fmt<W: fmt::Write>(&self, f: &mut fmt::Formatter<W>) -> fmt::Result {
-        let p = &self.position;
+        let p = self.position;
+        write!(f, "tray {} racks {} spaces {}", p.tray, p.racks, p.spaces)
+    }
+}
+
+impl Printed for Piles {
+    ghost line_of = { printed_piles };
+
+    ghost displayed = { λ _. refl };
+}
+
+// The chips at each seat, in its rack and on its spaces. Seven fields and no array, of whose elements a text is not proved yet.
+#[derive(Clone, Copy)]
+pub struct Seats {
+    pub seat_1: u64,
+    pub seat_2: u64,
+    pub seat_3: u64,
+    pub seat_4: u64,
+    pub seat_5: u64,
+    pub seat_6: u64,
+    pub seat_7: u64,
+}
+
+impl fmt::Display for Seats {
+    ghost output = { λ s. Some (seats_line s) };
+
+    fn fmt<W: fmt::Write>(&self, f: &mut fmt::Formatter<W>) -> fmt::Result {
         write!(
             f,
-            "tray {} racks {} spaces {} seats {} {} {} {} {} {} {} sum {} + {} = {} + {} + {} + {}",
-            p.tray,
-            p.racks,
-            p.spaces,
-            p.seats[0],
-            p.seats[1],
-            p.seats[2],
-            p.seats[3],
-            p.seats[4],
-            p.seats[5],
-            p.seats[6],
-            p.opening_tray,
-            p.deposited,
-            p.tray,
-            p.racks,
-            p.spaces,
-            p.withdrawn
+            "seats {} {} {} {} {} {} {}",
+            self.seat_1, self.seat_2, self.seat_3, self.seat_4, self.seat_5, self.seat_6, self.seat_7
         )
     }
 }
 
-impl Printed for Standing {
-    ghost line_of = { printed_standing };
+impl Printed for Seats {
+    ghost line_of = { printed_seats };
 
     ghost displayed = { λ _. refl };
+}
+
+// The opening tray and what was brought, beside all that is there and what was taken away.
+#[derive(Clone, Copy)]
+pub struct Sums {
+    pub position: Position,
+}
+
+impl fmt::Display for Sums {
+    ghost output = { λ p. Some (sums_line p.position) };
+
+    fn fmt<W: fmt::Write>(&self, f: &mut fmt::Formatter<W>) -> fmt::Result {
+        let p = self.position;
+        write!(
+            f,
+            "sum {} + {} = {} + {} + {} + {}",
+            p.opening_tray, p.deposited, p.tray, p.racks, p.spaces, p.withdrawn
+        )
+    }
+}
+
+impl Printed for Sums {
+    ghost line_of = { printed_sums };
+
+    ghost displayed = { λ _. refl };
+}
+
+// Prints where the chips lie; where memory runs out some of the lines may be printed.
+pub fn print_position(page: &mut Vec<u8>, position: Position) -> Result<(), AllocError>
+    ensures { OnOk result (page.new.items ≡ page.old.items ++ position_text position) }
+{
+    Piles { position }.print(page)?;
+    Seats {
+        seat_1: position.seats[0],
+        seat_2: position.seats[1],
+        seat_3: position.seats[2],
+        seat_4: position.seats[3],
+        seat_5: position.seats[4],
+        seat_6: position.seats[5],
+        seat_7: position.seats[6],
+    }
+    .print(page)?;
+    Sums { position }.print(page)
 }

@@ -2,13 +2,11 @@
 ghost use Rattle.std.specs.Prelude.{◌≡◌, ℕ, ◌≤◌, ◌++◌, length, OnOk};
 ghost use Rattle.commands.specs.Calls.{call_of};
 ghost use Rattle.ledger.specs.Rolls.{places};
-ghost use Rattle.history.specs.Histories.{Adds, rules_at, turns_at};
-ghost use Rattle.sheet.specs.Items.{items_of};
+ghost use Rattle.history.specs.Histories.{rules_at, turns_at};
 ghost use Rattle.sheet.specs.Reading.{longest};
-ghost use Rattle.table.specs.Causes.{verdict};
-ghost use Rattle.trace.specs.Traces.{Stepped, step_text, trace_text};
+ghost use Rattle.trace.specs.Traces.{Stepped, step_text, text_from};
 
-use crate::steps::{Standing, Step};
+use crate::steps::{Step, print_position};
 use commands::Command;
 use game::interface::Game;
 use history::histories::History;
@@ -40,8 +38,25 @@ pub fn step<'a, G: Game>(
     }
     .print(page)?;
     print_all(page, ledger.records())?;
-    Standing {
-        position: history.position(),
+    print_position(page, history.position())
+}
+
+/// Performs the commands from the reader's place on, as `step` does, until the sheet ends or one cannot be read, which is noted.
+pub fn steps<'a, G: Game>(
+    page: &mut Vec<u8>,
+    reader: &mut Reader<'a>,
+    history: &mut History<'a, G>,
+    ledger: &mut Roll<'_, Entry>,
+) -> Result<(), AllocError>
+    requires { length reader.old.sheet.now ≤ longest }
+    ensures { OnOk result (page.new.items ≡ page.old.items ++ text_from G.Game history.old (places ledger.old) reader.old.sheet.now reader.old.place.at) }
+{
+    loop {
+        let place = reader.place.at;
+        match reader.read() {
+            Ok(Some(command)) => step(page, place, command, history, ledger)?,
+            Ok(None) => return Ok(()),
+            Err(refusal) => return Note { place, refusal }.print(page),
+        }
     }
-    .print(page)
 }
