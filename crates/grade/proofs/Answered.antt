@@ -10,8 +10,8 @@ use Rattle.std.proofs.lemmas.List.Folds.{list_all-append}
 use Rattle.refusals.specs.declared.Refusal.{Refusal}
 use Rattle.grade.specs.Answers.{line_answer}
 use Rattle.grade.specs.Lines.{is_word}
-use Rattle.grade.specs.Streams.{answer_said, line_text, lines_of, answers_of}
-use Rattle.grade.specs.Typed.{HasTaken}
+use Rattle.grade.specs.Streams.{answer_text, line_text, lines_of, answers_of}
+use Rattle.grade.specs.States.{IsLineAfter}
 use Rattle.grade.specs.declared.answers.Answer.{Answer}
 use Rattle.grade.specs.declared.line.Line.{Line}
 
@@ -105,7 +105,7 @@ pub record AnsweredSoFar (text : List ℕ) (rest before after : Option (List ℕ
   pub rest_is : rest ≡ Some left
   pub written : Appends before after out
   pub whole : answers_of text ≡ out ++ answers_of (current ++ left)
-  pub taken : HasTaken line current
+  pub taken : IsLineAfter line current
   pub no_line_feed : no_feed current ≡ true
   pub begun_is : begun ≡ is_word current
 
@@ -113,7 +113,7 @@ pub record AnsweredSoFar (text : List ℕ) (rest before after : Option (List ℕ
 pub record Answering (known rest before after : Option (List ℕ)) (line : Line) (begun : Bool) : Type 0 where
   pub at : (text : List ℕ) → known ≡ Some text → AnsweredSoFar text rest before after line begun
 
-pub nothing_yet : (known rest writer : Option (List ℕ)) (line : Line) → rest ≡ known → HasTaken line [] → Answering known rest writer writer line false
+pub nothing_yet : (known rest writer : Option (List ℕ)) (line : Line) → rest ≡ known → IsLineAfter line [] → Answering known rest writer writer line false
 nothing_yet known rest writer line e taken = record {
   at = λ text k. record {
     current = [];
@@ -130,7 +130,7 @@ nothing_yet known rest writer line e taken = record {
 
 module _ (known rest before middle : Option (List ℕ)) (line : Line) (begun : Bool) (a : Answering known rest before middle line begun) where
   -- a byte of the line
-  pub byte_answered : (next : Option (List ℕ)) (new : Line) (b : ℕ) → Consumes rest next (b ∷ []) → eqb b 10 ≡ false → ((bytes : List ℕ) → HasTaken line bytes → HasTaken new (bytes ++ b ∷ [])) → Answering known next before middle new true
+  pub byte_answered : (next : Option (List ℕ)) (new : Line) (b : ℕ) → Consumes rest next (b ∷ []) → eqb b 10 ≡ false → ((bytes : List ℕ) → IsLineAfter line bytes → IsLineAfter new (bytes ++ b ∷ [])) → Answering known next before middle new true
   byte_answered next new b consumed other takes = record {
     at = λ text k.
         let s = a.at text k in
@@ -149,7 +149,7 @@ module _ (known rest before middle : Option (List ℕ)) (line : Line) (begun : B
   }
 
   -- a line feed
-  pub line_answered : (next after : Option (List ℕ)) (new : Line) (b : ℕ) (r : Result (Option Answer) Refusal) → Consumes rest next (b ∷ []) → b ≡ 10 → ((bytes : List ℕ) → HasTaken line bytes → r ≡ line_answer bytes) → Appends middle after (answer_said r ++ 10 ∷ []) → HasTaken new [] → Answering known next before after new false
+  pub line_answered : (next after : Option (List ℕ)) (new : Line) (b : ℕ) (r : Result (Option Answer) Refusal) → Consumes rest next (b ∷ []) → b ≡ 10 → ((bytes : List ℕ) → IsLineAfter line bytes → r ≡ line_answer bytes) → Appends middle after (answer_text r ++ 10 ∷ []) → IsLineAfter new [] → Answering known next before after new false
   line_answered next after new b r consumed feed says appended fresh = record {
     at = λ text k.
         let s = a.at text k in
@@ -159,7 +159,7 @@ module _ (known rest before middle : Option (List ℕ)) (line : Line) (begun : B
           left = p.rest;
           out = s.out ++ line_text s.current;
           rest_is = p.is;
-          written = appends_more before middle after s.out (line_text s.current) s.written (subst (λ x. Appends middle after (answer_said x ++ 10 ∷ [])) (says s.current s.taken) appended);
+          written = appends_more before middle after s.out (line_text s.current) s.written (subst (λ x. Appends middle after (answer_text x ++ 10 ∷ [])) (says s.current s.taken) appended);
           whole = s.whole
               ∙ ap (λ xs. s.out ++ answers_of (s.current ++ xs)) (p.byte ∙ ap (λ x. x ∷ p.rest) feed)
               ∙ ap (λ xs. s.out ++ xs) (answers_fed s.current p.rest s.no_line_feed)
@@ -183,9 +183,9 @@ module _ (known rest before middle : Option (List ℕ)) (line : Line) (begun : B
       subst (Appends before middle) (sym (at_end text k end ∙ ap (λ xs. s.out ++ xs) (answers_none s.current (sym s.begun_is ∙ none)) ∙ append-nil s.out)) s.written)
 
   -- the end of the input, in a line
-  pub last_answered : (after : Option (List ℕ)) (r : Result (Option Answer) Refusal) → IsAtEnd rest → begun ≡ true → ((bytes : List ℕ) → HasTaken line bytes → r ≡ line_answer bytes) → Appends middle after (answer_said r ++ 10 ∷ []) → IfSome known (λ text. Appends before after (answers_of text))
+  pub last_answered : (after : Option (List ℕ)) (r : Result (Option Answer) Refusal) → IsAtEnd rest → begun ≡ true → ((bytes : List ℕ) → IsLineAfter line bytes → r ≡ line_answer bytes) → Appends middle after (answer_text r ++ 10 ∷ []) → IfSome known (λ text. Appends before after (answers_of text))
   last_answered after r end some says appended = where_known known _ (λ text k.
       let s = a.at text k in
       subst (Appends before after)
       (sym (at_end text k end ∙ ap (λ xs. s.out ++ xs) (answers_last s.current (sym s.begun_is ∙ some) s.no_line_feed)))
-      (appends_more before middle after s.out (line_text s.current) s.written (subst (λ x. Appends middle after (answer_said x ++ 10 ∷ [])) (says s.current s.taken) appended)))
+      (appends_more before middle after s.out (line_text s.current) s.written (subst (λ x. Appends middle after (answer_text x ++ 10 ∷ [])) (says s.current s.taken) appended)))

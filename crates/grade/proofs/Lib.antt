@@ -1,4 +1,4 @@
 mod Answered
-mod KeptCards
-mod KeptLines
+mod HandStates
+mod LineStates
 mod Parts

@@ -28,5 +28,5 @@ meaning_words Cause.WrongCount = codes "a hand has neither three nor five cards,
 meaning_words _ = []
 
 -- what is printed of a refusal for such a cause
-abbrev pub cause_said : Cause → List ℕ
-cause_said cause = codes "refused " ++ (decimal (number_of cause) ++ (codes ": " ++ meaning_words cause))
+abbrev pub refusal_text : Cause → List ℕ
+refusal_text cause = codes "refused " ++ (decimal (number_of cause) ++ (codes ": " ++ meaning_words cause))

@@ -2,5 +2,5 @@ pub mod Answers
 pub mod Faults
 pub mod Lines
 pub mod Streams
-pub mod Typed
+pub mod States
 pub mod Words

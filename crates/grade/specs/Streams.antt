@@ -3,18 +3,18 @@ use Rattle.std.specs.Prelude.{ℕ, cond, ◌&&◌, List, [], ◌∷◌, ◌++◌
 use Rattle.std.specs.List.{flat_map, onto_first}
 use Rattle.refusals.specs.declared.Refusal.{Refusal}
 use Rattle.grade.specs.Answers.{line_answer, said}
-use Rattle.grade.specs.Faults.{cause_said}
+use Rattle.grade.specs.Faults.{refusal_text}
 use Rattle.grade.specs.declared.answers.Answer.{Answer}
 
 -- what is printed of an answer: nothing where there is none
-abbrev pub answer_said : Result (Option Answer) Refusal → List ℕ
-answer_said (Ok None) = []
-answer_said (Ok (Some answer)) = said answer
-answer_said (Err refusal) = cause_said refusal.cause
+abbrev pub answer_text : Result (Option Answer) Refusal → List ℕ
+answer_text (Ok None) = []
+answer_text (Ok (Some answer)) = said answer
+answer_text (Err refusal) = refusal_text refusal.cause
 
 -- the line that is printed of a line
 abbrev pub line_text : List ℕ → List ℕ
-line_text line = answer_said (line_answer line) ++ 10 ∷ []
+line_text line = answer_text (line_answer line) ++ 10 ∷ []
 
 -- the lines of an input: each ends with a line feed, but for the last, if there is anything behind the last line feed
 abbrev pub lines_of : List ℕ → List (List ℕ)

@@ -1,6 +1,6 @@
 // Why a line has no answer: the two causes for which grading refuses, and what each says to a reader.
 ghost use Rattle.std.specs.Prelude.{◌≡◌, Some, IfErr};
-ghost use Rattle.grade.specs.Faults.{FaultRefused, cause_of, as_refusal, meaning_words, cause_said};
+ghost use Rattle.grade.specs.Faults.{FaultRefused, cause_of, as_refusal, meaning_words, refusal_text};
 
 use refusals::{Cause, Refusal};
 use std::fmt;
@@ -51,7 +51,7 @@ pub fn with_fault<X: Drop>(graded: Result<X, Refusal>) -> Result<X, Fault>
 }
 
 impl fmt::Display for Fault {
-    ghost output = { λ fault. Some (cause_said (cause_of fault)) };
+    ghost output = { λ fault. Some (refusal_text (cause_of fault)) };
 
     fn fmt<W: fmt::Write>(&self, f: &mut fmt::Formatter<W>) -> fmt::Result {
         let number = self.cause().number();

@@ -2,7 +2,7 @@
 ghost use Rattle.std.specs.Prelude.{◌≡◌, ℕ, List, [], ◌∷◌, ◌++◌, length, ◌==◌};
 ghost use Rattle.grade.specs.Answers.{one_hand, two_hands};
 ghost use Rattle.grade.specs.Faults.{as_refusal};
-ghost use Rattle.grade.specs.Typed.{Keeps};
+ghost use Rattle.grade.specs.States.{IsHandAfter};
 
 use crate::answers::{Answer, answer_one, answer_two};
 use crate::faults::Fault;
@@ -20,7 +20,7 @@ pub struct TypedHand {
 
 impl TypedHand {
     pub fn new() -> TypedHand
-        ensures { Keeps result [] }
+        ensures { IsHandAfter result [] }
     {
         let first = FirstCards::new();
         TypedHand {
@@ -32,7 +32,7 @@ impl TypedHand {
 
     /// Takes one card more; a byte that is no card stands for a word that names none.
     pub fn add(&mut self, card: u8)
-        ensures { (cards : List ℕ) → Keeps self.old cards → Keeps self.new (cards ++ card ∷ []) }
+        ensures { (cards : List ℕ) → IsHandAfter self.old cards → IsHandAfter self.new (cards ++ card ∷ []) }
     {
         if !is_card(card) || self.seen[card as usize] {
             self.faulty = true;
@@ -44,14 +44,14 @@ impl TypedHand {
 
     /// Whether no word was typed.
     pub fn is_empty(&self) -> bool
-        ensures { (cards : List ℕ) → Keeps self.now cards → result ≡ (length cards == 0) }
+        ensures { (cards : List ℕ) → IsHandAfter self.now cards → result ≡ (length cards == 0) }
     {
         !self.faulty && self.first.as_slice().is_empty()
     }
 
     /// The answer for this hand alone.
     pub fn answer(&self) -> Result<Answer, Fault>
-        ensures { (cards : List ℕ) → Keeps self.now cards → as_refusal result ≡ one_hand cards }
+        ensures { (cards : List ℕ) → IsHandAfter self.now cards → as_refusal result ≡ one_hand cards }
     {
         if self.faulty {
             return Err(Fault::NoCard);
@@ -61,7 +61,7 @@ impl TypedHand {
 
     /// The answer for this hand and a second one.
     pub fn answer_beside(&self, second: &TypedHand) -> Result<Answer, Fault>
-        ensures { (cards others : List ℕ) → Keeps self.now cards → Keeps second.now others → as_refusal result ≡ two_hands cards others }
+        ensures { (cards others : List ℕ) → IsHandAfter self.now cards → IsHandAfter second.now others → as_refusal result ≡ two_hands cards others }
     {
         if self.faulty || second.faulty {
             return Err(Fault::NoCard);

@@ -3,7 +3,7 @@ ghost use Rattle.std.specs.Prelude.{◌≡◌, ℕ, List, [], ◌∷◌, ◌++�
 ghost use Rattle.grade.specs.Answers.{line_answer};
 ghost use Rattle.grade.specs.Faults.{as_refusal};
 ghost use Rattle.grade.specs.Lines.{is_blank};
-ghost use Rattle.grade.specs.Typed.{HasTaken, Typed, KeepsAll};
+ghost use Rattle.grade.specs.States.{IsLineAfter, IsTextState, IsHandAfterText};
 
 use crate::answers::Answer;
 use crate::faults::Fault;
@@ -31,7 +31,7 @@ pub struct Line {
 impl Line {
     /// A line of which nothing was typed.
     pub fn new() -> Line
-        ensures { HasTaken result [] }
+        ensures { IsLineAfter result [] }
     {
         Line {
             before: None,
@@ -43,7 +43,7 @@ impl Line {
     // Ends the word that is being typed.
     fn end_word(&mut self)
         ensures before { self.new.before ≡ self.old.before }
-        ensures hand { (text : List ℕ) → Typed self.old.hand self.old.word text → KeepsAll self.new.hand text }
+        ensures hand { (text : List ℕ) → IsTextState self.old.hand self.old.word text → IsHandAfterText self.new.hand text }
         ensures word { self.new.word ≡ Word.Empty }
     {
         if !self.word.is_empty() {
@@ -54,7 +54,7 @@ impl Line {
 
     /// Takes one byte more: a blank ends a word, the first bar a hand, and any other byte is part of a word.
     pub fn take(&mut self, byte: u8)
-        ensures { (bytes : List ℕ) → HasTaken self.old bytes → HasTaken self.new (bytes ++ byte ∷ []) }
+        ensures { (bytes : List ℕ) → IsLineAfter self.old bytes → IsLineAfter self.new (bytes ++ byte ∷ []) }
     {
         if is_blank(byte) {
             self.end_word();
@@ -69,7 +69,7 @@ impl Line {
 
     /// The answer for the line; none, if there is no word and no bar on it.
     pub fn answer(mut self) -> Result<Option<Answer>, Fault>
-        ensures { (bytes : List ℕ) → HasTaken self bytes → as_refusal result ≡ line_answer bytes }
+        ensures { (bytes : List ℕ) → IsLineAfter self bytes → as_refusal result ≡ line_answer bytes }
     {
         self.end_word();
         match self.before {

@@ -2,7 +2,7 @@
 ghost use Rattle.std.specs.Prelude.{ℕ, ◌≡◌, ◌≤◌, ◌<◌, ◌++◌, [], ◌∷◌, take, length, IfOk, OnOk, IfSome};
 ghost use Rattle.std.specs.Io.KnownBytes.{Appends, Consumes, IsAtEnd};
 ghost use Rattle.grade.specs.Faults.{as_refusal};
-ghost use Rattle.grade.specs.Streams.{answer_said, answers_of, without_mark};
+ghost use Rattle.grade.specs.Streams.{answer_text, answers_of, without_mark};
 
 use crate::answers::Answer;
 use crate::faults::Fault;
@@ -33,7 +33,7 @@ impl fmt::Display for Failure {
 
 // Writes the line that is printed of an answer, an empty one where there is none.
 fn write_answer<W: Write>(writer: &mut W, answer: Result<Option<Answer>, Fault>) -> io::Result<()>
-    ensures { OnOk result (Appends (W.contents writer.old) (W.contents writer.new) (answer_said (as_refusal answer) ++ 10 ∷ [])) }
+    ensures { OnOk result (Appends (W.contents writer.old) (W.contents writer.new) (answer_text (as_refusal answer) ++ 10 ∷ [])) }
 {
     match answer {
         Ok(None) => writer.write_all(b"\n"),
@@ -94,7 +94,7 @@ fn read_head<R: Read>(reader: &mut R, head: &mut [u8; 3]) -> io::Result<usize>
 }
 
 /// Answers each line of an input, from its first byte, or behind a byte-order mark that it begins with, to its end: a line is written for each
-/// line, and an empty one for a line with no word and no bar. What does not end with a line feed is a line too. Keeps no line whole.
+/// line, and an empty one for a line with no word and no bar. What does not end with a line feed is a line too. IsHandAfter no line whole.
 pub fn grade_lines<R: Read + Drop, W: Write>(mut reader: R, writer: &mut W) -> Result<(), Failure>
     ensures { OnOk result (IfSome (R.remaining reader) (λ input. Appends (W.contents writer.old) (W.contents writer.new) (answers_of (without_mark input)))) }
 {

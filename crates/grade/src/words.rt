@@ -1,7 +1,7 @@
 // Cards as people write them: a rank and the letter of a suit, in capital or small letters.
 ghost use Rattle.std.specs.Prelude.{◌≡◌, ℕ, List, [], ◌∷◌, ◌++◌, length, ◌==◌};
 ghost use Rattle.grade.specs.Words.{capital as capital_of, rank_named, suit_named, card_from, card_named, below};
-ghost use Rattle.grade.specs.Typed.{word_of};
+ghost use Rattle.grade.specs.States.{word_of};
 
 // A small letter as a capital, any other byte as it is; with the call in place the proof of `card_of` did not close.
 fn capital(byte: u8) -> u8

@@ -1,6 +1,6 @@
 use Rattle.std.proofs.Common.{◌≡◌, ◌<◌, ◌≤◌, Bool, true, false, not, ◌||◌, length, get_or, sym, refl, ap, ◌∙◌, arith}
 use Rattle.grading.specs.Cards.{is_card}
-use Rattle.grade.proofs.KeptCards.{at_fault, one_more, or_true}
+use Rattle.grade.proofs.HandStates.{at_fault, one_more, or_true}
 use Rattle.grade.proofs.hand.TypedHand.add.Goals as goal
 use Rattle.grade.proofs.hand.TypedHand.add.Goals.{then-not-is_card-via-then-not-is_card, then-not-is_card-via-else-not-is_card+then-self-card}
 

@@ -1,6 +1,6 @@
 use Rattle.std.proofs.Common.{sym, ap, ◌∙◌}
 use Rattle.grade.specs.Answers.{one_hand}
-use Rattle.grade.proofs.KeptCards.{not_true, not_false, one_no_card, one_by_first}
+use Rattle.grade.proofs.HandStates.{not_true, not_false, one_no_card, one_by_first}
 use Rattle.grade.proofs.hand.TypedHand.answer.Goals as goal
 
 pub returns-then-self : goal.returns-then-self

@@ -1,7 +1,7 @@
 use Rattle.std.proofs.Common.{not, ◌||◌, sym, ap, ◌∙◌}
 use Rattle.grading.specs.Cards.{different_cards}
 use Rattle.grade.specs.Answers.{two_hands}
-use Rattle.grade.proofs.KeptCards.{not_false, or_true, two_no_card, two_by_first}
+use Rattle.grade.proofs.HandStates.{not_false, or_true, two_no_card, two_by_first}
 use Rattle.grade.proofs.hand.TypedHand.answer_beside.Goals as goal
 use Rattle.grade.proofs.hand.TypedHand.answer_beside.Goals.{then-self-via-then-self, then-self-via-else-self+then-second}
 

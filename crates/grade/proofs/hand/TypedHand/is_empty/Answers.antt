@@ -1,5 +1,5 @@
 use Rattle.std.proofs.Common.{not, sym, ap, ◌∙◌}
-use Rattle.grade.proofs.KeptCards.{not_true, some_at_fault}
+use Rattle.grade.proofs.HandStates.{not_true, some_at_fault}
 use Rattle.grade.proofs.hand.TypedHand.is_empty.Goals as goal
 
 pub returns-else-not-self : goal.returns-else-not-self

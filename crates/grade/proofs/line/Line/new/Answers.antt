@@ -1,5 +1,5 @@
 use Rattle.std.proofs.Common.{refl}
-use Rattle.grade.proofs.KeptLines.{none_typed}
+use Rattle.grade.proofs.LineStates.{none_typed}
 use Rattle.grade.proofs.line.Line.new.Goals as goal
 
 pub returns : goal.returns

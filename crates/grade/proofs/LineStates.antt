@@ -12,18 +12,18 @@ use Rattle.grade.specs.Answers.{made, one_hand, two_hands, by_bar, text_answer, 
 use Rattle.grade.specs.declared.answers.Answer.{Answer}
 use Rattle.grade.specs.Lines.{is_blank, is_word, card_read, cards_read, bar_at, bar_of}
 use Rattle.grade.specs.Words.{card_named}
-use Rattle.grade.specs.Typed.{word_of, Keeps, KeepsAll, Typed, NoBar, TypedLine}
+use Rattle.grade.specs.States.{word_of, IsHandAfter, IsHandAfterText, IsTextState, NoBar, IsLineWith}
 use Rattle.grade.specs.declared.hand.TypedHand.{TypedHand}
 use Rattle.grade.specs.declared.words.Word.{Word}
 use Rattle.grade.specs.declared.words.Word.TheVariants.{Empty}
 use Rattle.grade.proofs.Parts.{onto_last, onto_last_at, split_ended, split_grown, cards_of_parts}
 
 -- a text of which nothing was typed
-pub none_typed : (hand : TypedHand) → Keeps hand [] → Typed hand Empty []
+pub none_typed : (hand : TypedHand) → IsHandAfter hand [] → IsTextState hand Empty []
 none_typed hand k = record { ended = []; part = []; split = refl; word = refl; hand = k }
 
 -- a byte more of the word
-pub grown : (hand : TypedHand) (word new : Word) (text : List ℕ) (b : ℕ) → is_blank b ≡ false → ((bytes : List ℕ) → word ≡ word_of bytes → new ≡ word_of (bytes ++ b ∷ [])) → Typed hand word text → Typed hand new (text ++ b ∷ [])
+pub grown : (hand : TypedHand) (word new : Word) (text : List ℕ) (b : ℕ) → is_blank b ≡ false → ((bytes : List ℕ) → word ≡ word_of bytes → new ≡ word_of (bytes ++ b ∷ [])) → IsTextState hand word text → IsTextState hand new (text ++ b ∷ [])
 grown hand word new text b other grows t = record {
   ended = t.ended;
   part = t.part ++ b ∷ [];
@@ -33,7 +33,7 @@ grown hand word new text b other grows t = record {
 }
 
 -- a blank behind a word that was ended
-pub parted : (hand : TypedHand) (text : List ℕ) (b : ℕ) → is_blank b ≡ true → KeepsAll hand text → Typed hand Empty (text ++ b ∷ [])
+pub parted : (hand : TypedHand) (text : List ℕ) (b : ℕ) → is_blank b ≡ true → IsHandAfterText hand text → IsTextState hand Empty (text ++ b ∷ [])
 unfolding cards_read
 parted hand text b blank k = record {
   ended = slice_split is_blank text;
@@ -44,7 +44,7 @@ parted hand text b blank k = record {
 }
 
 -- the cards of a text: those of the words that were ended, and of the last, if there is one
-cards_of : (hand : TypedHand) (word : Word) (text : List ℕ) → (t : Typed hand word text) → cards_read text ≡ map card_read (filter is_word t.ended) ++ cond (is_word t.part) (card_read t.part ∷ []) []
+cards_of : (hand : TypedHand) (word : Word) (text : List ℕ) → (t : IsTextState hand word text) → cards_read text ≡ map card_read (filter is_word t.ended) ++ cond (is_word t.part) (card_read t.part ∷ []) []
 unfolding cards_read
 cards_of hand word text t = ap (λ parts. map card_read (filter is_word parts)) t.split ∙ cards_of_parts t.ended t.part
 
@@ -52,17 +52,17 @@ word_test : (part : List ℕ) (t : Bool) → eqb (length part) 0 ≡ t → is_wo
 word_test part t e = ap not e
 
 -- no word was begun
-pub ended_nothing : (hand : TypedHand) (word : Word) (text : List ℕ) → ((bytes : List ℕ) → word ≡ word_of bytes → true ≡ eqb (length bytes) 0) → Typed hand word text → KeepsAll hand text
+pub ended_nothing : (hand : TypedHand) (word : Word) (text : List ℕ) → ((bytes : List ℕ) → word ≡ word_of bytes → true ≡ eqb (length bytes) 0) → IsTextState hand word text → IsHandAfterText hand text
 ended_nothing hand word text none t =
-    subst (Keeps hand)
+    subst (IsHandAfter hand)
     (sym (cards_of hand word text t ∙ ap (λ b. map card_read (filter is_word t.ended) ++ cond b (card_read t.part ∷ []) []) (word_test t.part true (sym (none t.part t.word))) ∙ append-nil _))
     t.hand
 
 -- a word was ended
-pub ended_word : (hand new : TypedHand) (word : Word) (text : List ℕ) (card : Option ℕ) → ((bytes : List ℕ) → word ≡ word_of bytes → false ≡ eqb (length bytes) 0) → ((bytes : List ℕ) → word ≡ word_of bytes → card ≡ card_named bytes) → ((cards : List ℕ) → Keeps hand cards → Keeps new (cards ++ unwrap_or card 0 ∷ [])) → Typed hand word text → KeepsAll new text
+pub ended_word : (hand new : TypedHand) (word : Word) (text : List ℕ) (card : Option ℕ) → ((bytes : List ℕ) → word ≡ word_of bytes → false ≡ eqb (length bytes) 0) → ((bytes : List ℕ) → word ≡ word_of bytes → card ≡ card_named bytes) → ((cards : List ℕ) → IsHandAfter hand cards → IsHandAfter new (cards ++ unwrap_or card 0 ∷ [])) → IsTextState hand word text → IsHandAfterText new text
 ended_word hand new word text card some names adds t =
-    let more : Keeps new (map card_read (filter is_word t.ended) ++ unwrap_or card 0 ∷ []) = adds (map card_read (filter is_word t.ended)) t.hand in
-    subst (Keeps new)
+    let more : IsHandAfter new (map card_read (filter is_word t.ended) ++ unwrap_or card 0 ∷ []) = adds (map card_read (filter is_word t.ended)) t.hand in
+    subst (IsHandAfter new)
     (ap (λ o. map card_read (filter is_word t.ended) ++ unwrap_or o 0 ∷ []) (names t.part t.word)
     ∙ sym (cards_of hand word text t ∙ ap (λ b. map card_read (filter is_word t.ended) ++ cond b (card_read t.part ∷ []) []) (word_test t.part false (sym (some t.part t.word)))))
     more
@@ -108,7 +108,7 @@ with_bar left right free =
 -- ---- a byte more of a line
 
 -- a blank
-pub blank_taken : (before : Option TypedHand) (old new : TypedHand) (word : Word) (bytes : List ℕ) (b : ℕ) → is_blank b ≡ true → eqb b 124 ≡ false → ((text : List ℕ) → Typed old word text → KeepsAll new text) → TypedLine before old word bytes → TypedLine before new Empty (bytes ++ b ∷ [])
+pub blank_taken : (before : Option TypedHand) (old new : TypedHand) (word : Word) (bytes : List ℕ) (b : ℕ) → is_blank b ≡ true → eqb b 124 ≡ false → ((text : List ℕ) → IsTextState old word text → IsHandAfterText new text) → IsLineWith before old word bytes → IsLineWith before new Empty (bytes ++ b ∷ [])
 blank_taken None old new word bytes b blank free ends (none, t) = (no_bar_more bytes b free none, parted new bytes b blank (ends bytes t))
 blank_taken (Some first) old new word bytes b blank free ends l = record {
   left = l.left;
@@ -120,7 +120,7 @@ blank_taken (Some first) old new word bytes b blank free ends l = record {
 }
 
 -- the first bar
-pub bar_taken : (old first new : TypedHand) (word : Word) (bytes : List ℕ) → ((text : List ℕ) → Typed old word text → KeepsAll first text) → Keeps new [] → TypedLine None old word bytes → TypedLine (Some first) new Empty (bytes ++ 124 ∷ [])
+pub bar_taken : (old first new : TypedHand) (word : Word) (bytes : List ℕ) → ((text : List ℕ) → IsTextState old word text → IsHandAfterText first text) → IsHandAfter new [] → IsLineWith None old word bytes → IsLineWith (Some first) new Empty (bytes ++ 124 ∷ [])
 bar_taken old first new word bytes ends fresh (none, t) = record {
   left = bytes;
   right = [];
@@ -131,7 +131,7 @@ bar_taken old first new word bytes ends fresh (none, t) = record {
 }
 
 -- a byte of a word: no blank, and no bar unless there was one
-pub byte_taken : (before : Option TypedHand) (hand : TypedHand) (word new : Word) (bytes : List ℕ) (b : ℕ) → is_blank b ≡ false → (before ≡ None → eqb b 124 ≡ false) → ((text : List ℕ) → word ≡ word_of text → new ≡ word_of (text ++ b ∷ [])) → TypedLine before hand word bytes → TypedLine before hand new (bytes ++ b ∷ [])
+pub byte_taken : (before : Option TypedHand) (hand : TypedHand) (word new : Word) (bytes : List ℕ) (b : ℕ) → is_blank b ≡ false → (before ≡ None → eqb b 124 ≡ false) → ((text : List ℕ) → word ≡ word_of text → new ≡ word_of (text ++ b ∷ [])) → IsLineWith before hand word bytes → IsLineWith before hand new (bytes ++ b ∷ [])
 byte_taken None hand word new bytes b other free grows (none, t) = (no_bar_more bytes b (free refl) none, grown hand word new bytes b other grows t)
 byte_taken (Some first) hand word new bytes b other free grows l = record {
   left = l.left;
@@ -148,17 +148,17 @@ blank_no_bar b e = grind (arith, nat_tests)
 -- ---- the answer
 
 abbrev Ends : TypedHand → TypedHand → Word → Type 0
-Ends old new word = (text : List ℕ) → Typed old word text → KeepsAll new text
+Ends old new word = (text : List ℕ) → IsTextState old word text → IsHandAfterText new text
 
 -- of two hands
-pub answer_of_two : (first old new : TypedHand) (word : Word) (bytes : List ℕ) (r : Result Answer Refusal) → Ends old new word → ((cards others : List ℕ) → Keeps first cards → Keeps new others → r ≡ two_hands cards others) → TypedLine (Some first) old word bytes → made Some r ≡ line_answer bytes
+pub answer_of_two : (first old new : TypedHand) (word : Word) (bytes : List ℕ) (r : Result Answer Refusal) → Ends old new word → ((cards others : List ℕ) → IsHandAfter first cards → IsHandAfter new others → r ≡ two_hands cards others) → IsLineWith (Some first) old word bytes → made Some r ≡ line_answer bytes
 answer_of_two first old new word bytes r ends says l =
     ap (made Some) (says (cards_read l.left) (cards_read l.right) l.first (ends l.right l.second))
     ∙ sym (with_bar l.left l.right l.no_bar)
     ∙ ap line_answer (sym l.whole)
 
 -- of one
-pub answer_of_one : (old new : TypedHand) (word : Word) (bytes : List ℕ) (r : Result Answer Refusal) → Ends old new word → ((cards : List ℕ) → Keeps new cards → false ≡ eqb (length cards) 0) → ((cards : List ℕ) → Keeps new cards → r ≡ one_hand cards) → TypedLine None old word bytes → made Some r ≡ line_answer bytes
+pub answer_of_one : (old new : TypedHand) (word : Word) (bytes : List ℕ) (r : Result Answer Refusal) → Ends old new word → ((cards : List ℕ) → IsHandAfter new cards → false ≡ eqb (length cards) 0) → ((cards : List ℕ) → IsHandAfter new cards → r ≡ one_hand cards) → IsLineWith None old word bytes → made Some r ≡ line_answer bytes
 answer_of_one old new word bytes r ends some says (none, t) =
     let k = ends bytes t in
     ap (made Some) (says (cards_read bytes) k)
@@ -166,7 +166,7 @@ answer_of_one old new word bytes r ends some says (none, t) =
     ∙ sym (without_bar bytes none)
 
 -- of a line with no word
-pub answer_of_none : (old new : TypedHand) (word : Word) (bytes : List ℕ) → Ends old new word → ((cards : List ℕ) → Keeps new cards → true ≡ eqb (length cards) 0) → TypedLine None old word bytes → ◌≡◌ {A = Result (Option Answer) Refusal} (Ok None) (line_answer bytes)
+pub answer_of_none : (old new : TypedHand) (word : Word) (bytes : List ℕ) → Ends old new word → ((cards : List ℕ) → IsHandAfter new cards → true ≡ eqb (length cards) 0) → IsLineWith None old word bytes → ◌≡◌ {A = Result (Option Answer) Refusal} (Ok None) (line_answer bytes)
 answer_of_none old new word bytes ends none_there (none, t) =
     let k = ends bytes t in
     ap (λ b. cond b (Ok None) (made Some (one_hand (cards_read bytes)))) (none_there (cards_read bytes) k)

@@ -10,7 +10,7 @@ use Rattle.grading.specs.Grading.{three_class, five_class}
 use Rattle.grading.proofs.Different.{copies_snoc, different_snoc, different_front}
 use Rattle.grading.proofs.Refused.{three_class_no_card, five_class_no_card, three_class_wrong_count, five_class_wrong_count, three_compared_no_card, five_compared_no_card, three_compared_wrong_count, five_compared_wrong_count}
 use Rattle.grade.specs.Answers.{made, one_graded, two_graded, one_hand, two_hands}
-use Rattle.grade.specs.Typed.{Keeps, kept}
+use Rattle.grade.specs.States.{IsHandAfter, first_cards_of}
 use Rattle.grade.specs.declared.answers.Answer.TheVariants.{Threes, Fives}
 use Rattle.grade.specs.declared.hand.TypedHand.{TypedHand}
 
@@ -101,14 +101,14 @@ and_left_false : (a b : Bool) → a ≡ false → (a && b) ≡ false
 and_left_false a b e = ap (λ x. x && b) e
 
 -- at a hand with a fault nothing more is kept
-faulty_more : (new : TypedHand) (cards : List ℕ) (card : ℕ) → new.faulty ≡ true → different_cards (cards ++ card ∷ []) ≡ false → Keeps new (cards ++ card ∷ [])
+faulty_more : (new : TypedHand) (cards : List ℕ) (card : ℕ) → new.faulty ≡ true → different_cards (cards ++ card ∷ []) ≡ false → IsHandAfter new (cards ++ card ∷ [])
 faulty_more new cards card f d = record {
   faulty = f ∙ ap not (sym d);
   cards = λ e. absurd (both_ways (different_cards (cards ++ card ∷ [])) d e);
 }
 
 -- a byte that is no card, or stands there already
-pub at_fault : (old new : TypedHand) (cards : List ℕ) (card : ℕ) → new.faulty ≡ true → card < 256 → (not (is_card card) || get_or old.seen card false) ≡ true → Keeps old cards → Keeps new (cards ++ card ∷ [])
+pub at_fault : (old new : TypedHand) (cards : List ℕ) (card : ℕ) → new.faulty ≡ true → card < 256 → (not (is_card card) || get_or old.seen card false) ≡ true → IsHandAfter old cards → IsHandAfter new (cards ++ card ∷ [])
 at_fault old new cards card f within test k =
     let whole = different_snoc cards card in
     ⊎_elim
@@ -135,7 +135,7 @@ take_snoc n xs x =
     (cases_lt (length xs) n)
 
 -- a card that is not there yet
-pub one_more : (old new : TypedHand) (cards : List ℕ) (card : ℕ) → card < 256 → 256 ≤ length old.seen → new.faulty ≡ old.faulty → new.seen ≡ set old.seen card true → kept new.first ≡ take 6 (kept old.first ++ card ∷ []) → (not (is_card card) || get_or old.seen card false) ≡ false → Keeps old cards → Keeps new (cards ++ card ∷ [])
+pub one_more : (old new : TypedHand) (cards : List ℕ) (card : ℕ) → card < 256 → 256 ≤ length old.seen → new.faulty ≡ old.faulty → new.seen ≡ set old.seen card true → first_cards_of new.first ≡ take 6 (first_cards_of old.first ++ card ∷ []) → (not (is_card card) || get_or old.seen card false) ≡ false → IsHandAfter old cards → IsHandAfter new (cards ++ card ∷ [])
 one_more old new cards card within room f s first test k =
     let whole = different_snoc cards card in
     ⊎_elim
@@ -143,7 +143,7 @@ one_more old new cards card within room f s first test k =
     let ks = k.cards good in
     let passes : (is_card card && eqb (copies_of card cards) 0) ≡ true = passes_of (is_card card) (get_or old.seen card false) (eqb (copies_of card cards) 0) (ks.seen card within) test in
     let good_too : different_cards (cards ++ card ∷ []) ≡ true = whole ∙ (λ i. good i && passes i) in
-    let result : Keeps new (cards ++ card ∷ []) = record {
+    let result : IsHandAfter new (cards ++ card ∷ []) = record {
       faulty = f ∙ k.faulty ∙ ap not (good ∙ sym good_too);
       cards = λ _. record {
         first = first ∙ ap (λ xs. take 6 (xs ++ card ∷ [])) ks.first ∙ take_snoc 6 cards card;
