@@ -33,23 +33,23 @@ abbrev pub run_at : Rules → List ℕ → Books → ℕ → State × Ended
 run_at R sheet b p = run_of R sheet b p roll_places roll_places
 
 -- a run, and where it stopped for want of room the runs that follow from the table and the place that it left
-abbrev pub and_further : (Books → ℕ → List State) → State × Ended → List State
-and_further further (s, NoRoom) = s ∷ further s.books s.place
-and_further further (s, _) = s ∷ []
+abbrev pub with_later_runs : (Books → ℕ → List State) → State × Ended → List State
+with_later_runs further (s, NoRoom) = s ∷ further s.books s.place
+with_later_runs further (s, _) = s ∷ []
 
 -- a run from a place on, and at most so many further ones
 abbrev pub runs_up_to : ℕ → Rules → List ℕ → Books → ℕ → List State
 runs_up_to zero R sheet b p = (run_at R sheet b p).0 ∷ []
-runs_up_to (suc n) R sheet b p = and_further (runs_up_to n R sheet) (run_at R sheet b p)
+runs_up_to (suc n) R sheet b p = with_later_runs (runs_up_to n R sheet) (run_at R sheet b p)
 
 -- all runs from a place on: each that stops for want of room has moved its place, so that no more follow than a sheet has bytes
 abbrev pub all_runs : Rules → List ℕ → Books → ℕ → List State
 all_runs R sheet b p = runs_up_to (length sheet) R sheet b p
 
 -- the table that runs leave, one after another
-abbrev pub left_by : Books → List State → Books
-left_by b [] = b
-left_by b (s ∷ rs) = left_by s.books rs
+abbrev pub state_after : Books → List State → Books
+state_after b [] = b
+state_after b (s ∷ rs) = state_after s.books rs
 
 -- the lines of some entries, and then of some notes
 abbrev pub run_lines : List Entry → List Note → List (List ℕ)
@@ -57,7 +57,7 @@ run_lines entries notes = map printed_entry entries ++ map printed_note notes
 
 -- the lines of runs that began with this table, and then the closing line of the table that they leave
 abbrev pub lines_of_runs : Books → List State → List (List ℕ)
-lines_of_runs b rs = flat_map (λ s. run_lines s.entries s.notes) rs ++ printed_closing (closing_of (left_by b rs)) ∷ []
+lines_of_runs b rs = flat_map (λ s. run_lines s.entries s.notes) rs ++ printed_closing (closing_of (state_after b rs)) ∷ []
 
 -- the lines that are printed of a whole sheet
 pub data LinesOf (sheet : List ℕ) : List (List ℕ) → Type 0 where
