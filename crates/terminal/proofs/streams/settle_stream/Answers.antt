@@ -1,5 +1,5 @@
 -- What was read is all bytes, or one byte more than a sheet may have.
-use Rattle.std.proofs.Common.{◌≡◌, ◌+◌, List, ℕ, length, take, Option, IfSome, subst}
+use Rattle.std.proofs.Common.{◌≡◌, ◌+◌, length, take, IfSome, subst}
 use Rattle.sheet.specs.Reading.{longest}
 use Rattle.byte_streams.proofs.Cutting.{read_all}
 use Rattle.terminal.specs.Printed.{PrintedOf}
