@@ -1,5 +1,5 @@
--- What makes a game: what it tells, and what it promises for any stakes up to a million a space, any choice it allows and any lawful deal.
-use Rattle.std.specs.Prelude.{◌≡◌, ℕ, ◌+◌, ◌≤◌, Bool, true, false, List, length, sum, slice_index, Ok, Err, Result}
+-- What makes a game: what it tells, and what it promises for the seven seats, any stakes up to a million a space, any choice it allows and any lawful deal.
+use Rattle.std.specs.Prelude.{◌≡◌, ℕ, ◌+◌, ◌-◌, ◌<◌, ◌≤◌, Bool, true, false, List, length, sum, slice_index, slice_set, Ok, Err, Result}
 use Rattle.game.specs.declared.choice.Choice.{Choice}
 use Rattle.game.specs.declared.choice.Choice.TheVariants.{Open, Raised, Left}
 use Rattle.game.specs.declared.taking.Barred.{Barred}
@@ -35,6 +35,10 @@ pub record Rules : Type 0 where
   -- the most that the bank may have to add to what the seat laid
   pub ceiling : List ℕ → ℕ
 
+-- a seat's other stakes, where a space is asked about: its stakes without the one on that space
+abbrev pub other_stakes : List ℕ → ℕ → List ℕ
+other_stakes stakes space = slice_set stakes (space - 1) 0
+
 -- five stakes, each at most a million
 pub record Small (stakes : List ℕ) : Type 0 where
   pub five : length stakes ≡ 5
@@ -60,9 +64,10 @@ added R stakes Left = 0
 -- the five facts
 pub record Facts (R : Rules) : Type 0 where
   -- the return is at most the seat's stakes, with the raise if it raised, plus the ceiling
-  pub pays : (seat : ℕ) (stakes : List ℕ) (c : Choice) (d : Deal) → Small stakes → Allowed R stakes c → Fair R d → R.returns seat stakes c d ≤ sum stakes + added R stakes c + R.ceiling stakes
+  pub pays : (seat : ℕ) (stakes : List ℕ) (c : Choice) (d : Deal) → seat < 7 → Small stakes → Allowed R stakes c → Fair R d
+      → R.returns seat stakes c d ≤ sum stakes + added R stakes c + R.ceiling stakes
   -- a seat without stakes has return, raise and ceiling 0
-  pub idle_return : (seat : ℕ) (stakes : List ℕ) (c : Choice) (d : Deal) → Small stakes → sum stakes ≡ 0 → Fair R d → R.returns seat stakes c d ≡ 0
+  pub idle_return : (seat : ℕ) (stakes : List ℕ) (c : Choice) (d : Deal) → seat < 7 → Small stakes → Allowed R stakes c → Fair R d → sum stakes ≡ 0 → R.returns seat stakes c d ≡ 0
   pub idle_raise : (stakes : List ℕ) → Small stakes → sum stakes ≡ 0 → R.raise stakes ≡ 0
   pub idle_ceiling : (stakes : List ℕ) → Small stakes → sum stakes ≡ 0 → R.ceiling stakes ≡ 0
   -- no ceiling passes 10,000,000,000

@@ -11,7 +11,10 @@ pub trait Game {
     // what the game tells
     ghost rules: { Self → Rules };
 
-    // Whether the space takes a stake beside the seat's other stakes.
+    /// Returns whether the space takes a stake beside the seat's other stakes.
+    ///
+    /// `stakes` are the seat's stakes on the other spaces: the one on the space itself is handed in as 0.
+    /// Refused where the space takes no bets, or where a stake that it needs beside it is missing.
     fn takes(&self, stakes: &[u32; 5], space: u8) -> Result<(), Barred>
         ensures { result ≡ (rules self.now).takes stakes.now space };
 

@@ -72,8 +72,8 @@ no_ceiling g stakes none = rw (no_stake_at stakes none 0, no_stake_at stakes non
 
 pub facts_of : (g : Makccarat) → Facts (rules_of g)
 facts_of g = record {
-  pays = λ seat stakes c d s a f. omega (arith, returns_le g stakes d.cards s.five);
-  idle_return = λ seat stakes c d s none f. omega (arith, returns_le g stakes d.cards s.five, no_ceiling g stakes none);
+  pays = λ seat stakes c d seven s a f. omega (arith, returns_le g stakes d.cards s.five);
+  idle_return = λ seat stakes c d seven s a f none. omega (arith, returns_le g stakes d.cards s.five, no_ceiling g stakes none);
   idle_raise = λ stakes s none. refl;
   idle_ceiling = λ stakes s none. no_ceiling g stakes none;
   ceilings = ceiling_le g;

@@ -16,7 +16,7 @@ use Rattle.run.specs.Runs.{run_of, Ran}
 use Rattle.open_table.specs.declared.open_table.OpenTable.{OpenTable}
 use Rattle.open_table.specs.declared.begun.Begun.{Begun}
 use Rattle.open_table.specs.Firsts.{first_refusal}
-use Rattle.open_table.specs.Tables.{opening_causes, rules_at, books_at}
+use Rattle.open_table.specs.Tables.{opening_of, opening_causes, rules_at, books_at}
 
 -- the table that the command at a place opens, once the sheet behind it was run
 pub record RunningFrom (sheet : List ℕ) (p : ℕ) (l : Roll Entry) (n : Roll Note) (t : OpenTable) (ended : Ended) (p' : ℕ) (l' : Roll Entry) (n' : Roll Note) : Type 0 where
@@ -25,10 +25,10 @@ pub record RunningFrom (sheet : List ℕ) (p : ℕ) (l : Roll Entry) (n : Roll N
   pub reads : read_at sheet p ≡ Ok (Some (Open conditions tray))
   pub accepted : first_cause (opening_causes conditions tray) ≡ None
   pub game : Opens conditions.game conditions.cap conditions.odds t.table.game
-  pub ran : Ran (rules_at t) sheet (opened conditions.minimum conditions.maximum tray) (p + width_of (Open conditions tray)) l n ended (books_at t) p' l' n'
+  pub ran : Ran (rules_at t) sheet (opened (opening_of conditions tray)) (p + width_of (Open conditions tray)) l n ended (books_at t) p' l' n'
   -- whole: the calls that the run performed led from the opening to this table
-  pub whole : Reached (rules_at t) conditions.minimum conditions.maximum tray
-      (run_of (rules_at t) sheet (opened conditions.minimum conditions.maximum tray) (p + width_of (Open conditions tray)) (free l) (free n)).0.turns (books_at t)
+  pub whole : Reached (rules_at t) (opening_of conditions tray)
+      (run_of (rules_at t) sheet (opened (opening_of conditions tray)) (p + width_of (Open conditions tray)) (free l) (free n)).0.turns (books_at t)
 
 -- place and rolls are as they were
 pub record Unmoved (p : ℕ) (l : Roll Entry) (n : Roll Note) (p' : ℕ) (l' : Roll Entry) (n' : Roll Note) : Type 0 where

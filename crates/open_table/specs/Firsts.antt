@@ -2,7 +2,8 @@
 use Rattle.std.specs.Prelude.{◌≡◌, ℕ, ◌+◌, List, Some, None, Ok, Err, Option, Result}
 use Rattle.refusals.specs.declared.Cause.TheVariants.{WrongStage}
 use Rattle.refusals.specs.declared.Refusal.{Refusal}
-use Rattle.refusals.specs.Refusals.{first_cause, refused}
+use Rattle.refusals.specs.declared.Cause.{Cause}
+use Rattle.refusals.specs.Refusals.{first_cause, refused, Answers}
 use Rattle.commands.specs.declared.Conditions.{Conditions}
 use Rattle.commands.specs.Calls.{Call, Open, Buy, Cash, Fill, Draw, Bet, Deal, Raise, Leave, Settle, Void}
 use Rattle.sheet.specs.Format.{width_of}
@@ -31,6 +32,15 @@ abbrev pub first_refusal : Result (Option Call) Refusal → Option Refusal
 first_refusal (Ok None) = None
 first_refusal (Ok (Some c)) = opens_not c
 first_refusal (Err e) = Some e
+
+-- the cause that is noted of a first command, if it opened no table
+abbrev pub cause_noted : {A : Type 0} → Result A Note → Option Cause
+cause_noted (Ok x) = None
+cause_noted (Err note) = Some note.refusal.cause
+
+-- where an Open is read, the least of the causes that hold is noted, and a table is opened where none holds
+abbrev pub LeastNoted : {A : Type 0} → List ℕ → ℕ → Result A Note → Type 0
+LeastNoted sheet p r = (c : Conditions) (tray : ℕ) → read_at sheet p ≡ Ok (Some (Open c tray)) → Answers (opening_causes c tray) (cause_noted r)
 
 -- a table opened by the command at a place
 pub record OpenedAt (sheet : List ℕ) (p : ℕ) (t : OpenTable) (p' : ℕ) : Type 0 where

@@ -13,6 +13,7 @@ use Rattle.ledger.specs.declared.entries.Entry.{Entry}
 use Rattle.ledger.specs.declared.notes.Note.{Note}
 use Rattle.ledger.specs.declared.rolls.Roll.{Roll}
 use Rattle.books.specs.declared.table_books.Books.{Books}
+use Rattle.table.specs.declared.opening.Opening.{Opening}
 use Rattle.table.specs.Holdings.{limit}
 use Rattle.table.specs.Opening.{bad_bounds, refused_by}
 use Rattle.table.specs.Performing.{Performed}
@@ -28,6 +29,10 @@ rules_at t = rules_of t.table.game
 abbrev pub books_at : OpenTable → Books
 books_at t = t.table.books
 
+-- the bounds of a stake and the tray with which conditions open a table
+abbrev pub opening_of : Conditions → ℕ → Opening
+opening_of c tray = record { minimum = c.minimum; maximum = c.maximum; tray = tray }
+
 -- why a table is not opened: its tray, and then its bounds or what its game asks
 abbrev pub opening_causes : Conditions → ℕ → List (Bool × Cause)
 opening_causes c tray =
@@ -38,7 +43,7 @@ opening_causes c tray =
 abbrev pub Opened : Conditions → ℕ → Result OpenTable Refusal → Type 0
 Opened c tray (Ok t) =
     (first_cause (opening_causes c tray) ≡ None) × Opens c.game c.cap c.odds t.table.game
-    × (books_at t ≡ opened c.minimum c.maximum tray) × Reached (rules_at t) c.minimum c.maximum tray [] (books_at t)
+    × (books_at t ≡ opened (opening_of c tray)) × Reached (rules_at t) (opening_of c tray) [] (books_at t)
 Opened c tray (Err e) = Some e ≡ refused_by (first_cause (opening_causes c tray))
 
 -- a command performed: all that performing promises, at the same game

@@ -1,6 +1,6 @@
 // The first command of a sheet: it has to open the table.
 ghost use Rattle.std.specs.Prelude.{◌≡◌};
-ghost use Rattle.open_table.specs.Firsts.{FirstCommand};
+ghost use Rattle.open_table.specs.Firsts.{FirstCommand, LeastNoted};
 
 use crate::open_table::OpenTable;
 use commands::Command;
@@ -8,9 +8,11 @@ use ledger::notes::Note;
 use refusals::{Cause, Refusal};
 use sheet::reader::Reader;
 
-// Reads the first command and opens its table; none where there is no command, and else the note of why none was opened. The place moves only behind an Open that is accepted.
+/// Reads the first command and opens its table: `None` where there is no command, and `Err` with the note of why none was opened.
+/// The reading place moves only behind an Open that is accepted.
 pub fn first_command(reader: &mut Reader<'_>) -> Result<Option<OpenTable>, Note>
     ensures first { FirstCommand reader.old.sheet.now reader.old.place.at result reader.new.place.at }
+    ensures least { LeastNoted reader.old.sheet.now reader.old.place.at result }
     ensures sheet { reader.new.sheet ≡ reader.old.sheet }
 {
     let at = reader.place.at;

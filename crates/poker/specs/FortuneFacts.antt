@@ -81,8 +81,8 @@ module _ (odds : List ℕ) where
 
   fortune_facts : all_postable odds ≡ true → Facts (fortune_rules odds)
   fortune_facts posted = record {
-    pays = λ seat stakes c d s a f. returns_le stakes (seat_hand 3 seat d) (bank_hand 3 d) c s.five;
-    idle_return = λ seat stakes c d s none f. omega (arith, returns_le stakes (seat_hand 3 seat d) (bank_hand 3 d) c s.five, no_ceiling stakes none, no_raise stakes c none);
+    pays = λ seat stakes c d seven s a f. returns_le stakes (seat_hand 3 seat d) (bank_hand 3 d) c s.five;
+    idle_return = λ seat stakes c d seven s a f none. omega (arith, returns_le stakes (seat_hand 3 seat d) (bank_hand 3 d) c s.five, no_ceiling stakes none, no_raise stakes c none);
     idle_raise = λ stakes s none. no_stake_at stakes none 0;
     idle_ceiling = λ stakes s none. no_ceiling stakes none;
     ceilings = λ stakes s. omega (arith, s.each 0, mul-le (pair_plus_stake stakes) (largest odds) 1000000 1000 (s.each 2) (largest_le posted));

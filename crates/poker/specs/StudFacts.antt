@@ -55,8 +55,8 @@ module _ (cap : ℕ) where
 
   stud_facts : Facts (stud_rules cap)
   stud_facts = record {
-    pays = λ seat stakes c d s a f. returns_le stakes (seat_hand 5 seat d) (bank_hand 5 d) c s.five;
-    idle_return = λ seat stakes c d s none f. omega (arith, returns_le stakes (seat_hand 5 seat d) (bank_hand 5 d) c s.five, no_ceiling stakes none, no_raise stakes c none);
+    pays = λ seat stakes c d seven s a f. returns_le stakes (seat_hand 5 seat d) (bank_hand 5 d) c s.five;
+    idle_return = λ seat stakes c d seven s a f none. omega (arith, returns_le stakes (seat_hand 5 seat d) (bank_hand 5 d) c s.five, no_ceiling stakes none, no_raise stakes c none);
     idle_raise = λ stakes s none. no_raise stakes Raised none;
     idle_ceiling = λ stakes s none. no_ceiling stakes none;
     ceilings = λ stakes s. omega (arith, s.each 0);

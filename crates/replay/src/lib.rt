@@ -11,6 +11,7 @@ use ledger::entries::Entry;
 use ledger::rolls::Roll;
 use refusals::Refusal;
 use table::holdings::Table;
+use table::opening::Opening;
 
 // One call of a history: its command, and how many places the ledger has that it is handed.
 #[derive(Clone, Copy)]
@@ -32,15 +33,13 @@ fn perform_one<G: Game>(table: &mut Table<G>, request: &Request<'_>, slots: &mut
 // Opens a table and performs the calls in order; the ledger of each stands on the first of the lent places.
 pub fn replay<G: Game + Drop>(
     game: G,
-    minimum: u32,
-    maximum: u32,
-    tray: u64,
+    opening: Opening,
     requests: &[Request<'_>],
     slots: &mut [Entry],
 ) -> Result<Table<G>, Refusal>
-    ensures replayed { Replayed G.Game game minimum maximum tray requests.now (length slots.old) result }
+    ensures replayed { Replayed G.Game game opening requests.now (length slots.old) result }
 {
-    let mut table = Table::open(game, minimum, maximum, tray)?;
+    let mut table = Table::open(game, opening)?;
     for request in requests {
         perform_one(&mut table, request, slots);
     }

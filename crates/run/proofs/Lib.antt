@@ -1,3 +1,4 @@
 pub mod Enough
 pub mod Going
 pub mod Progress
+pub mod Stopping

@@ -48,7 +48,7 @@ module _ (R : Rules) (sheet : List ℕ) where
           let ends : SheetEnd ≡ NoRoom = sym (ap (λ x. x.1) (is ∙ ap (λ r. runs R lf nf (start b p) (item_and (items_of sheet) p r)) e)) ∙ stopped in
           absurd (cc)
       go (Err x) e is =
-          let ends : Unreadable ≡ NoRoom = sym (ap (λ y. y.1) (is ∙ ap (λ r. runs R lf nf (start b p) (item_and (items_of sheet) p r)) e ∙ ap (λ t. cond t (start b p, NoRoom) (unread (start b p) p x, Unreadable)) room)) ∙ stopped in
+          let ends : Unreadable x ≡ NoRoom = sym (ap (λ y. y.1) (is ∙ ap (λ r. runs R lf nf (start b p) (item_and (items_of sheet) p r)) e ∙ ap (λ t. cond t (start b p, NoRoom) (unread (start b p) p x, Unreadable x)) room)) ∙ stopped in
           absurd (cc)
       go (Ok (Some c)) e is =
           let v = verdict R b c lf in

@@ -1,5 +1,5 @@
 -- What a run leaves, exactly, and the laws above it.
-use Rattle.std.specs.Prelude.{◌≡◌, ℕ, ◌+◌, ◌-◌, ◌<◌, ◌≤◌, Bool, cond, ◌||◌, List, [], ◌∷◌, ◌++◌, map, length, is_ok, Ok, Err, Result, ◌==◌, nat_lt}
+use Rattle.std.specs.Prelude.{◌≡◌, ℕ, ◌+◌, ◌-◌, ◌<◌, ◌≤◌, Bool, cond, ◌||◌, List, [], ◌∷◌, ◌++◌, map, length, Ok, Err, Result, ◌==◌, nat_lt}
 use Rattle.refusals.specs.declared.Cause.TheVariants.{SheetTooLong}
 use Rattle.refusals.specs.declared.Refusal.{Refusal}
 use Rattle.refusals.specs.Refusals.{refused}
@@ -17,12 +17,14 @@ use Rattle.table.specs.Calls.{either}
 use Rattle.table.specs.Causes.{verdict}
 use Rattle.table.specs.Effects.{after}
 use Rattle.table.specs.Entries.{writes}
-use Rattle.table.specs.Promise.{Reached}
+use Rattle.table.specs.declared.opening.Opening.{Opening}
+use Rattle.table.specs.Promise.{turn_of, Reached}
 use Rattle.table.specs.Soundness.{Sound}
-use Rattle.table.specs.Tally.{Turn, turn}
+use Rattle.table.specs.Tally.{Turn}
 use Rattle.run.specs.declared.ended.Ended.{Ended}
 use Rattle.run.specs.declared.ended.Ended.TheVariants.{SheetEnd, Unreadable, NoRoom}
 use Rattle.run.specs.Meaning.{note_of, noted, most_entries, Told, quiet, and_then, told}
+use Rattle.run.specs.StopRule.{entries_in, StopRule}
 
 -- how far a run has come: the table, what it wrote and noted, the calls it performed with whether each was accepted, and its place
 pub record State : Type 0 where
@@ -45,7 +47,7 @@ performed R free s p c r = record {
   books = either r (after R s.books c) s.books;
   entries = s.entries ++ either r (writes R s.books c) [];
   notes = s.notes ++ noted p r;
-  turns = s.turns ++ turn c free (is_ok r) ∷ [];
+  turns = s.turns ++ turn_of R s.books c free r ∷ [];
   place = p + width_of c;
 }
 
@@ -59,7 +61,7 @@ runs R entries notes s [] = (s, SheetEnd)
 runs R entries notes s (command p c ∷ is) =
     let r = verdict R s.books c entries in
     cond (no_room entries notes) (s, NoRoom) (runs R (entries - length (either r (writes R s.books c) [])) (notes - length (noted p r)) (performed R entries s p c r) is)
-runs R entries notes s (fault p e ∷ is) = cond (no_room entries notes) (s, NoRoom) (unread s p e, Unreadable)
+runs R entries notes s (fault p e ∷ is) = cond (no_room entries notes) (s, NoRoom) (unread s p e, Unreadable e)
 
 -- the run of a sheet from a place on
 abbrev pub run_of : Rules → List ℕ → Books → ℕ → ℕ → ℕ → State × Ended
@@ -67,9 +69,8 @@ run_of R sheet b p entries notes = runs R entries notes (start b p) (items_of sh
 
 -- what is still to come after a run: all that the sheet means from its place on, where there was no room; else nothing
 abbrev pub to_come : Rules → List ℕ → Ended → Books → ℕ → Told
-to_come R sheet SheetEnd b p = quiet b
-to_come R sheet Unreadable b p = quiet b
 to_come R sheet NoRoom b p = told R b (items_of sheet p)
+to_come R sheet _ b p = quiet b
 
 -- the table, the place and both rolls are as they were
 pub record Still (b : Books) (p : ℕ) (l : Roll Entry) (n : Roll Note) (b' : Books) (p' : ℕ) (l' : Roll Entry) (n' : Roll Note) : Type 0 where
@@ -85,13 +86,17 @@ pub record Ran (R : Rules) (sheet : List ℕ) (b : Books) (p : ℕ) (l : Roll En
   pub place : p' ≡ (run_of R sheet b p (free l) (free n)).0.place
   pub ledger : Written l l' (run_of R sheet b p (free l) (free n)).0.entries
   pub notes : Written n n' (run_of R sheet b p (free l) (free n)).0.notes
+  -- the entries are those that the calls performed wrote, in order
+  pub by_turns : (run_of R sheet b p (free l) (free n)).0.entries ≡ entries_in (run_of R sheet b p (free l) (free n)).0.turns
   -- the calls performed, and then those that stand from the new place on, are the calls of the sheet: each once, in order
   pub each_once : calls_in (items_of sheet p) ≡ map (λ u. u.call) (run_of R sheet b p (free l) (free n)).0.turns ++ calls_in (items_of sheet p')
   -- stopping early and going on comes to the same table, entries and notes as the whole sheet does
   pub parts : told R b (items_of sheet p) ≡ and_then (run_of R sheet b p (free l) (free n)).0.entries (run_of R sheet b p (free l) (free n)).0.notes (to_come R sheet ended b' p')
+  -- each command was performed with room for it, and the run ended where the stop rule says
+  pub stops : StopRule sheet (free l) (free n) (run_of R sheet b p (free l) (free n)).0.turns ended p'
   pub sound : Sound R b'
   -- whatever history led here from a newly opened table, with the calls performed and whether each was accepted leads there
-  pub leads : (minimum maximum tray : ℕ) (us : List Turn) → Reached R minimum maximum tray us b → Reached R minimum maximum tray (us ++ (run_of R sheet b p (free l) (free n)).0.turns) b'
+  pub leads : (o : Opening) (us : List Turn) → Reached R o us b → Reached R o (us ++ (run_of R sheet b p (free l) (free n)).0.turns) b'
 
 -- what a run answers: a sheet that is too long is refused and nothing changes; else it ran
 abbrev pub Answered : Rules → List ℕ → Books → ℕ → Roll Entry → Roll Note → Result Ended Refusal → Books → ℕ → Roll Entry → Roll Note → Type 0

@@ -27,9 +27,8 @@ module _ (R : Rules) (sheet : List ℕ) (b : Books) (p : ℕ) (l : Roll Entry) (
     pub place : p' ≡ p + width_of call
     pub notes : Written n n' (noted p answer)
 
-  -- no command could be read at the place
-  pub record Stuck (b' : Books) (p' : ℕ) (l' : Roll Entry) (n' : Roll Note) : Type 0 where
-    pub refusal : Refusal
+  -- no command could be read at the place, by this refusal
+  pub record Stuck (refusal : Refusal) (b' : Books) (p' : ℕ) (l' : Roll Entry) (n' : Roll Note) : Type 0 where
     pub reads : read_at sheet p ≡ Err refusal
     pub room : no_room (free l) (free n) ≡ false
     pub books : b' ≡ b
@@ -40,5 +39,5 @@ module _ (R : Rules) (sheet : List ℕ) (b : Books) (p : ℕ) (l : Roll Entry) (
   abbrev pub Stepped : Option Ended → Books → ℕ → Roll Entry → Roll Note → Type 0
   Stepped None b' p' l' n' = Moved b' p' l' n'
   Stepped (Some SheetEnd) b' p' l' n' = (read_at sheet p ≡ Ok None) × Still b p l n b' p' l' n'
-  Stepped (Some Unreadable) b' p' l' n' = Stuck b' p' l' n'
+  Stepped (Some (Unreadable e)) b' p' l' n' = Stuck e b' p' l' n'
   Stepped (Some NoRoom) b' p' l' n' = (p < length sheet) × (no_room (free l) (free n) ≡ true) × Still b p l n b' p' l' n'

@@ -1,7 +1,8 @@
 // The run: the commands of a sheet from a place on, each performed once, until the sheet ends, one cannot be read, or there is no room.
-ghost use Rattle.std.specs.Prelude.{◌≡◌, ℕ, ◌≤◌, length};
+ghost use Rattle.std.specs.Prelude.{◌≡◌, ℕ, ◌≤◌, ◌&&◌, length, nat_lt};
+ghost use Rattle.ledger.specs.Rolls.{free};
 ghost use Rattle.sheet.specs.Reading.{longest};
-ghost use Rattle.run.specs.Runs.{Ran, Answered};
+ghost use Rattle.run.specs.Runs.{no_room, Ran, Answered};
 ghost use Rattle.run.specs.Steps.{Stepped};
 
 use crate::ended::Ended;
@@ -11,6 +12,13 @@ use refusals::{Cause, Refusal};
 use sheet::reader::Reader;
 use sheet::reading::LONGEST;
 use table::holdings::Table;
+
+// Whether the run stops here for want of room: bytes remain, and a command might not find room for what it writes.
+fn stops_here(reader: &Reader<'_>, rolls: &Rolls<'_>) -> bool
+    ensures { result ≡ (nat_lt reader.now.place.at (length reader.now.sheet.now) && no_room (free rolls.now.ledger) (free rolls.now.notes)) }
+{
+    reader.place.at < reader.sheet.len() && rolls.lack_room()
+}
 
 // Performs the command at the place, unless the run ends here.
 // That the sheet is not too long is asked of the caller: a type that carried it would hold three references, each with a clause that it is still the same one.
@@ -25,10 +33,7 @@ fn step<G: Game>(
     ensures sheet { reader.new.sheet ≡ reader.old.sheet }
 {
     let at = reader.place.at;
-    if at >= reader.sheet.len() {
-        return Some(Ended::SheetEnd);
-    }
-    if rolls.lack_room() {
+    if stops_here(reader, rolls) {
         return Some(Ended::NoRoom);
     }
     match reader.read() {
@@ -41,7 +46,7 @@ fn step<G: Game>(
         Ok(None) => Some(Ended::SheetEnd),
         Err(refusal) => {
             rolls.note(at, refusal);
-            Some(Ended::Unreadable)
+            Some(Ended::Unreadable(refusal))
         }
     }
 }

@@ -105,13 +105,13 @@ module _ (R : Rules) where
       return_covered may =
           let v = seat_at b k in
           let h = s.seats k lt in
-          omega (arith, facts.pays k v.stakes v.choice r h.small may (dealt_sound b r s dealt), h.raise)
+          omega (arith, facts.pays k v.stakes v.choice r lt h.small may (dealt_sound b r s dealt), h.raise)
 
       -- a seat without stakes gets nothing back
-      pub idle_nothing : does_stake (seat_at b k) ≡ false → return_to R r k (seat_at b k) ≡ 0
-      idle_nothing idle =
+      pub idle_nothing : May R (seat_at b k) → does_stake (seat_at b k) ≡ false → return_to R r k (seat_at b k) ≡ 0
+      idle_nothing may idle =
           let v = seat_at b k in
-          facts.idle_return k v.stakes v.choice r (s.seats k lt).small (omega (arith, ltb-false 0 (sum v.stakes) idle)) (dealt_sound b r s dealt)
+          facts.idle_return k v.stakes v.choice r lt (s.seats k lt).small may (dealt_sound b r s dealt) (omega (arith, ltb-false 0 (sum v.stakes) idle))
 
     -- clearing a seat ends its choice, so the stage still stands
     stands_cleared : (b : Books) (k n tray : ℕ) → length b.seats ≡ 7 → (g : Stage) → StageSound R b g → StageSound R (with_tray (with_seat b k (cleared n)) tray) g

@@ -57,7 +57,7 @@ module _ {R : Rules} (facts : Facts R) {b b' : Books} (s : Sound R b) (l : Roll 
         ledger = subst (λ x. Written l l' (either r (writes R b x) [])) (sym e) w;
         least = subst (λ o. Answers (causes R b c (free l)) o) (sym (told r d'.answer)) (answers 0 (causes R b c (free l)) (causes_in_turn R b c (free l)));
         sound = did_sound R facts b b' c (free l) r s d';
-        leads = λ minimum maximum tray us h. turned R facts minimum maximum tray us b b' c (free l) r s h d';
+        leads = λ o us h. turned R facts o us b b' c (free l) r s h d';
       }
     where
       told : (r : Result (Unit {0}) Refusal) → r ≡ verdict R b c (free l) → cause_in r ≡ first_cause (causes R b c (free l))

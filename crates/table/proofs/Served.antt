@@ -16,10 +16,10 @@ module _ (R : Rules) (facts : Facts R) (b : Books) (k : ℕ) (s : Sound R b) (lt
   settled_sound may b' e = subst (Sound R) (sym e) (settle_sound R facts b r s dealt k lt may)
 
   -- a seat that does not stake is settled by ending its choice
-  pub idle_settled : does_stake (seat_at b k) ≡ false → with_seat b k (unchosen (seat_at b k)) ≡ settle_seat R r b k
-  idle_settled idle =
+  pub idle_settled : May R (seat_at b k) → does_stake (seat_at b k) ≡ false → with_seat b k (unchosen (seat_at b k)) ≡ settle_seat R r b k
+  idle_settled may idle =
       let v = seat_at b k in
-      let nothing = idle_nothing R facts b r k s dealt lt idle in
+      let nothing = idle_nothing R facts b r k s dealt lt may idle in
       let none = idle_laid R facts v (s.seats k lt) idle in
       let same_tray : b.tray ≡ b.tray + laid v - return_to R r k v = omega (arith, nothing, none.1, ap sum none.0) in
       let same_rack : v.rack ≡ v.rack + return_to R r k v = omega (arith, nothing) in

@@ -9,7 +9,7 @@ use Rattle.game.specs.declared.taking.Barred.{Barred}
 use Rattle.game.specs.declared.taking.Barred.TheVariants.{NoBets as Bars, NoCompanion as Lacks}
 use Rattle.game.specs.declared.dealing.Misdeal.{Misdeal}
 use Rattle.game.specs.declared.dealing.Misdeal.TheVariants.{NoCard as Strange, WrongCount as Miscounted}
-use Rattle.game.specs.Rules.{Rules, deal}
+use Rattle.game.specs.Rules.{Rules, deal, other_stakes}
 use Rattle.books.specs.declared.seat.Seat.{Seat}
 use Rattle.books.specs.declared.table_books.Books.{Books}
 use Rattle.books.specs.Books.{seat_at}
@@ -49,10 +49,10 @@ causes R b (Draw n) free = ((n == 0), BadAmount) ∷ (nat_lt b.tray (ceilings R 
 causes R b (Bet s j n) free =
     (not (is_betting b.stage), WrongStage)
     ∷ (bad_seat s, NoSuchSeat)
-    ∷ (bad_space j || does_bar (R.takes (seat_at b (s - 1)).stakes j), NoBets)
+    ∷ (bad_space j || does_bar (R.takes (other_stakes (seat_at b (s - 1)).stakes j) j), NoBets)
     ∷ (n == 0 || (nat_lt n b.minimum || nat_lt b.maximum n), BadAmount)
     ∷ (not (slice_index (seat_at b (s - 1)).stakes (j - 1) == 0), SpaceTaken)
-    ∷ (does_lack (R.takes (seat_at b (s - 1)).stakes j), NoCompanion)
+    ∷ (does_lack (R.takes (other_stakes (seat_at b (s - 1)).stakes j) j), NoCompanion)
     ∷ (nat_lt (seat_at b (s - 1)).rack n, RackTooSmall)
     ∷ (nat_lt b.tray (ceilings R (slice_set b.seats (s - 1) (with_bet (seat_at b (s - 1)) j n))), TrayTooSmall) ∷ []
 causes R b (Deal cards) free =

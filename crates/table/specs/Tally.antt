@@ -1,19 +1,24 @@
--- The tally of a run: fed the calls, their arguments and whether each was accepted, it reads nothing from the table.
-use Rattle.std.specs.Prelude.{ℕ, ◌+◌, ◌-◌, Bool, true, false, cond, not, ◌&&◌, List, [], ◌∷◌, map, ℤ, pos, ◌+ℤ◌, ◌-ℤ◌, Some, None, fold, sum_by, sum, Option, ◌==◌, nat_lt, slice_set}
+-- The tally of a history: fed the calls, their arguments and whether each was accepted, it reads nothing from the table.
+use Rattle.std.specs.Prelude.{ℕ, ◌+◌, ◌-◌, Bool, true, false, cond, not, ◌&&◌, List, [], ◌∷◌, map, ℤ, pos, ◌+ℤ◌, ◌-ℤ◌, is_ok, Some, None, fold, sum_by, sum, Option, Result, filter, ◌==◌, nat_lt, slice_set}
+use Rattle.refusals.specs.declared.Refusal.{Refusal}
 use Rattle.commands.specs.Calls.{Call, Open, Buy, Cash, Fill, Draw, Bet, Deal, Raise, Leave, Settle, Void}
 use Rattle.game.specs.declared.choice.Choice.{Choice}
 use Rattle.game.specs.declared.choice.Choice.TheVariants.{Open as open_choice, Raised, Left}
 use Rattle.game.specs.Rules as game
 use Rattle.game.specs.Rules.{Rules, added}
+use Rattle.ledger.specs.declared.entries.Entry.{Entry}
+use Rattle.ledger.specs.Entries.{entered}
 
--- one call of a run: the call, the free places of the ledger it was handed, and whether it was accepted
+-- one call of a history: the call, the free places of the ledger it was handed, its answer, and the entries that it wrote to that ledger
 pub record Turn : Type 0 where
   pub call : Call
   pub free : ℕ
-  pub accepted : Bool
+  pub answer : Result (Unit {0}) Refusal
+  pub entries : List Entry
 
-abbrev pub turn : Call → ℕ → Bool → Turn
-turn c n a = record { call = c; free = n; accepted = a }
+-- a call that was not refused was accepted; of a turn the tally reads this and the call, and nothing else
+abbrev pub is_accepted : Turn → Bool
+is_accepted u = is_ok u.answer
 
 -- one seat of the tally: a balance, which is a whole number with sign, its stakes, and its choice
 pub record Slip : Type 0 where
@@ -82,7 +87,7 @@ counted R t Void = record { slip = λ k. cleared_slip (t.slip k).balance; deal =
 
 -- a refused call changes nothing
 abbrev pub noted : Rules → Tally → Turn → Tally
-noted R t u = cond u.accepted (counted R t u.call) t
+noted R t u = cond (is_accepted u) (counted R t u.call) t
 
 abbrev pub tally : Rules → List Turn → Tally
 tally R us = fold (noted R) start us
@@ -116,10 +121,10 @@ takes_away Void = 0
 
 -- accepted buys and fills, and accepted cash-outs and draws
 abbrev pub brought : List Turn → ℕ
-brought us = sum_by (λ u. cond u.accepted (brings u.call) 0) us
+brought us = sum_by (λ u. cond (is_accepted u) (brings u.call) 0) us
 
 abbrev pub taken : List Turn → ℕ
-taken us = sum_by (λ u. cond u.accepted (takes_away u.call) 0) us
+taken us = sum_by (λ u. cond (is_accepted u) (takes_away u.call) 0) us
 
 -- no choice is made yet
 abbrev pub is_unmade : Choice → Bool
@@ -146,3 +151,48 @@ is_ready R t = is_dealt t.deal && none_of (map (λ k. is_awaited R (t.slip k)) s
 -- the entries of the round: one for each seat with a stake
 abbrev pub entries : Tally → ℕ
 entries t = sum (map (λ k. cond (is_staked t.slip k) 1 0) seats)
+
+-- how many rounds a call begins: a deal begins one
+abbrev pub begins : Call → ℕ
+begins (Open conditions tray) = 0
+begins (Buy s n) = 0
+begins (Cash s n) = 0
+begins (Fill n) = 0
+begins (Draw n) = 0
+begins (Bet s j n) = 0
+begins (Deal cards) = 1
+begins (Raise s) = 0
+begins (Leave s) = 0
+begins Settle = 0
+begins Void = 0
+
+-- the number of the round: the accepted deals
+abbrev pub rounds : List Turn → ℕ
+rounds us = sum_by (λ u. cond (is_accepted u) (begins u.call) 0) us
+
+-- the entry of a seat by its slip: the round, the seat's number, the stakes with the raise if raised, and the told return
+abbrev pub entry_by : Rules → ℕ → game.Deal → ℕ → Slip → Entry
+entry_by R round d k s = entered round (k + 1) (sum s.stakes + added R s.stakes s.choice) (R.returns k s.stakes s.choice d)
+
+-- the entries of a round by the tally: one for each seat with a noted stake, in the order of the seats
+abbrev pub entries_by : Rules → ℕ → (ℕ → Slip) → Option game.Deal → List Entry
+entries_by R round slip None = []
+entries_by R round slip (Some d) = map (λ k. entry_by R round d k (slip k)) (filter (is_staked slip) seats)
+
+-- the entries that an accepted call has to write, by the history before it: a settlement those of the round, any other call none
+abbrev pub accepted_writes : Rules → List Turn → Call → List Entry
+accepted_writes R before (Open conditions tray) = []
+accepted_writes R before (Buy s n) = []
+accepted_writes R before (Cash s n) = []
+accepted_writes R before (Fill n) = []
+accepted_writes R before (Draw n) = []
+accepted_writes R before (Bet s j n) = []
+accepted_writes R before (Deal cards) = []
+accepted_writes R before (Raise s) = []
+accepted_writes R before (Leave s) = []
+accepted_writes R before Settle = let t = tally R before in entries_by R (rounds before) t.slip t.deal
+accepted_writes R before Void = []
+
+-- the entries that a turn has to have written, by the history before it
+abbrev pub entries_due : Rules → List Turn → Turn → List Entry
+entries_due R before u = cond (is_accepted u) (accepted_writes R before u.call) []

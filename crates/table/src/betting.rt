@@ -38,7 +38,9 @@ impl<G: Game> Table<G> {
         // On a copy, since the tray may refuse a stake that is already laid.
         let mut seats = self.books.seats;
         let s = &mut seats[place];
-        let taking = self.game.takes(&s.stakes, space);
+        let mut others = s.stakes;
+        others[on] = 0;
+        let taking = self.game.takes(&others, space);
         if let Err(Barred::NoBets) = taking {
             return Err(Refusal::new(Cause::NoBets, seat));
         }

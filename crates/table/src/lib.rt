@@ -6,5 +6,5 @@ mod buying; // Buy, Cash, Fill and Draw.
 mod betting; // Bet and Deal.
 mod choosing; // Raise and Leave.
 mod ending; // Settle and Void.
-mod opening; // Open.
+pub mod opening; // Open.
 mod performing; // One command, decided by stage and command together.

@@ -1,187 +1,249 @@
 -- What is printed from run to run.
-use Rattle.std.proofs.Common.{◌≡◌, ◌≢◌, ℕ, ◌+◌, ◌-◌, ◌<◌, ◌≤◌, List, [], ◌++◌, length, Some, None, Ok, Err, Option, Result, OnOk, is_ok, if◌then◌else◌, sym, refl, ap, ◌∙◌, subst, append_assoc, arith}
+use Rattle.std.proofs.Common.{◌≡◌, ◌≢◌, ℕ, zero, suc, ◌+◌, ◌-◌, ◌<◌, ◌≤◌, List, [], ◌∷◌, ◌++◌, length, get_or, Ok, Err, Result, All, OnOk, OnErr, is_ok, if◌then◌else◌, sym, refl, ap, ◌∙◌, subst, append_assoc, flat_map, arith}
 use Rattle.std.proofs.lemmas.List.{append-nil, map-append}
+use Rattle.std.proofs.lemmas.List.Concat.{flat_map-cons}
+use Rattle.std.proofs.lemmas.List.Elements.{All-append}
+use Rattle.std.proofs.lemmas.Grind.{flat_map-append}
 use Rattle.std.specs.Borrow.{Bor}
+use Rattle.std.specs.List.{concat}
 use Rattle.refusals.specs.declared.Refusal.{Refusal}
-use Rattle.commands.specs.Calls.{Open}
+use Rattle.game.specs.Rules.{Rules}
+use Rattle.games.specs.Rules.{rules_of}
 use Rattle.ledger.specs.declared.entries.Entry.{Entry}
 use Rattle.ledger.specs.declared.notes.Note.{Note}
 use Rattle.ledger.specs.declared.rolls.Roll.{Roll}
 use Rattle.ledger.specs.Rolls.{kept, places, free}
-use Rattle.lines.specs.Lines.{printed_entry, printed_note, printed_closing, lines_of}
-use Rattle.game.specs.Rules.{Rules}
-use Rattle.games.specs.Rules.{rules_of}
+use Rattle.lines.specs.Lines.{printed_closing}
 use Rattle.books.specs.declared.table_books.Books.{Books}
-use Rattle.sheet.specs.Format.{width_of}
 use Rattle.sheet.specs.Items.{items_of, calls_in}
-use Rattle.sheet.specs.Reading.{longest, read_at}
-use Rattle.table.specs.Promise.{opened, Reached}
+use Rattle.sheet.specs.Reading.{longest}
+use Rattle.table.specs.declared.opening.Opening.{Opening}
+use Rattle.table.specs.Promise.{Reached}
 use Rattle.table.specs.Tally.{Turn}
 use Rattle.run.specs.declared.ended.Ended.{Ended}
 use Rattle.run.specs.declared.ended.Ended.TheVariants.{SheetEnd, Unreadable, NoRoom}
-use Rattle.run.specs.Meaning.{note_of, told}
+use Rattle.run.specs.Meaning.{most_entries, Told, and_then, told}
 use Rattle.run.specs.Runs.{State, run_of, to_come, Ran}
+use Rattle.run.specs.StopRule.{entries_in}
 use Rattle.run.proofs.Progress.{moves_on}
 use Rattle.open_table.specs.declared.open_table.OpenTable.{OpenTable}
-use Rattle.open_table.specs.declared.begun.Begun.{Begun}
-use Rattle.open_table.specs.Begins.{RunningFrom, SheetBegun}
-use Rattle.open_table.specs.Firsts.{first_refusal}
 use Rattle.open_table.specs.Sums.{closing_of}
 use Rattle.open_table.specs.Tables.{rules_at, books_at, SheetRun}
-use Rattle.open_table.proofs.Summing.{parts_add_up}
-use Rattle.terminal.specs.Printed.{roll_places, run_lines, Prints, at_last, and_on, empty, refused, played}
-use Rattle.terminal.specs.Pages.{Emptied, Ready, Afterwards, calls_to_come, LedOn, Grown, GoneOn, Page}
+use Rattle.terminal.specs.Printed.{roll_places, run_at, and_further, runs_up_to, all_runs, left_by, run_lines, lines_of_runs}
+use Rattle.terminal.specs.Promised.{turns_in}
+use Rattle.terminal.specs.Pages.{Emptied, Ready, runs_after, calls_after, lines_after, LedOn, PrintedInPart}
 use Rattle.terminal.proofs.AllCalls.{calls_of, once_with}
+use Rattle.terminal.proofs.Parts.{one_line, concat_then, part_behind, part_more, none_in_part}
 
 -- how many runs may still come: none but where room was wanting
 abbrev pub turns_left : List ℕ → ℕ → Ended → ℕ
-turns_left sheet p SheetEnd = 0
-turns_left sheet p Unreadable = 0
 turns_left sheet p NoRoom = length sheet - p + 1
+turns_left sheet p _ = 0
 
--- one run with empty rolls, printed: what it left, and what is promised of it
-abbrev pub out_of : Rules → List ℕ → Books → ℕ → State × Ended
-out_of R sheet b p = run_of R sheet b p roll_places roll_places
+-- the lines of one run
+abbrev pub lines_of : State → List (List ℕ)
+lines_of s = run_lines s.entries s.notes
 
-pub record NextRun (R : Rules) (sheet : List ℕ) (b : Books) (p : ℕ) (page : List ℕ) (ended : Ended) (b' : Books) (p' : ℕ) (page' : List ℕ) : Type 0 where
-  pub ends : ended ≡ (out_of R sheet b p).1
-  pub books : b' ≡ (out_of R sheet b p).0.books
-  pub place : p' ≡ (out_of R sheet b p).0.place
-  pub printed : page' ≡ page ++ run_lines (out_of R sheet b p).0
-  pub once : calls_in (items_of sheet p) ≡ calls_of (out_of R sheet b p).0.turns ++ calls_to_come sheet ended p'
-  pub parts : (told R b (items_of sheet p)).books ≡ (to_come R sheet ended b' p').books
-  pub leads : (minimum maximum tray : ℕ) (us : List Turn) → Reached R minimum maximum tray us b → Reached R minimum maximum tray (us ++ (out_of R sheet b p).0.turns) b'
+left_append : (b : Books) (rs rs' : List State) → left_by b (rs ++ rs') ≡ left_by (left_by b rs) rs'
+left_append b [] rs' = refl
+left_append b (s ∷ rs) rs' = left_append s.books rs rs'
 
--- how far printing has come: whatever is printed and promised from here on is what was to be printed and promised behind what is there
-pub record Going (sheet : List ℕ) (t : OpenTable) (p : ℕ) (first : Ended) (page : List ℕ) (t' : OpenTable) (p' : ℕ) (ended : Ended) (page' : List ℕ) : Type 0 where
-  pub text : List ℕ
-  pub printed : page' ≡ page ++ text
-  pub rest : (more : List ℕ) → Afterwards (rules_at t) sheet (books_at t') p' ended more → Afterwards (rules_at t) sheet (books_at t) p first (text ++ more)
-  pub led : (more : List ℕ) → LedOn (rules_at t) sheet (books_at t') p' ended more → LedOn (rules_at t) sheet (books_at t) p first (text ++ more)
-  pub game : t'.table.game ≡ t.table.game
+lines_then : (b : Books) (rs rs' : List State) → lines_of_runs b (rs ++ rs') ≡ flat_map lines_of rs ++ lines_of_runs (left_by b rs) rs'
+lines_then b rs rs' =
+    ap (λ x. flat_map lines_of (rs ++ rs') ++ printed_closing (closing_of x) ∷ []) (left_append b rs rs')
+    ∙ ap (λ x. x ++ printed_closing (closing_of (left_by (left_by b rs) rs')) ∷ []) (flat_map-append lines_of rs rs')
+    ∙ append_assoc (flat_map lines_of rs) (flat_map lines_of rs') (printed_closing (closing_of (left_by (left_by b rs) rs')) ∷ [])
 
-module _ (R : Rules) (sheet : List ℕ) (b : Books) (p : ℕ) (page : List ℕ) (ended : Ended) (b' : Books) (p' : ℕ) (page' : List ℕ) (m : NextRun R sheet b p page ended b' p' page') where
-  -- a run, and what is printed after it
-  pub run_then : (more : List ℕ) → Afterwards R sheet b' p' ended more → Prints R sheet b p (run_lines (out_of R sheet b p).0 ++ more)
-  run_then more a = go ended m.ends (subst (λ k. Afterwards R sheet (out_of R sheet b p).0.books k ended more) m.place (subst (λ x. Afterwards R sheet x p' ended more) m.books a))
+-- the runs of a sheet are one run and then those that are to come after it
+module _ (R : Rules) (sheet : List ℕ) (short : length sheet ≤ longest) where
+  moved : (b : Books) (p : ℕ) → (run_at R sheet b p).1 ≡ NoRoom → (p < length sheet) × (p < (run_at R sheet b p).0.place)
+  moved b p stopped = moves_on R sheet short b p roll_places roll_places refl stopped
+
+  enough : (n : ℕ) (b : Books) (p : ℕ) → length sheet ≤ n + p → runs_up_to n R sheet b p ≡ runs_up_to (suc n) R sheet b p
+  enough zero b p few = go (run_at R sheet b p) (moved b p)
     where
-      s : State
-      s = (out_of R sheet b p).0
+      go : (x : State × Ended) → (x.1 ≡ NoRoom → (p < length sheet) × (p < x.0.place)) → x.0 ∷ [] ≡ and_further (runs_up_to zero R sheet) x
+      go (s, SheetEnd) on = refl
+      go (s, Unreadable e) on = refl
+      go (s, NoRoom) on = absurd (omega (arith, few, (on refl).0))
+  enough (suc n) b p few = go (λ b' p' few'. enough n b' p' few') (run_at R sheet b p) (moved b p)
+    where
+      go : ((b' : Books) (p' : ℕ) → length sheet ≤ n + p' → runs_up_to n R sheet b' p' ≡ runs_up_to (suc n) R sheet b' p')
+          → (x : State × Ended) → (x.1 ≡ NoRoom → (p < length sheet) × (p < x.0.place)) → and_further (runs_up_to n R sheet) x ≡ and_further (runs_up_to (suc n) R sheet) x
+      go more (s, SheetEnd) on = refl
+      go more (s, Unreadable e) on = refl
+      go more (s, NoRoom) on = ap (λ rs. s ∷ rs) (more s.books s.place (omega (arith, few, (on refl).1)))
 
-      -- the run, told with how it ended
-      so : (e : Ended) → e ≡ (out_of R sheet b p).1 → out_of R sheet b p ≡ (s, e)
-      so e is = ap (λ x. (s, x)) (sym is)
+  pub runs_step : (b : Books) (p : ℕ) → all_runs R sheet b p ≡ and_further (all_runs R sheet) (run_at R sheet b p)
+  runs_step b p = enough (length sheet) b p (omega arith)
 
-      go : (e : Ended) → e ≡ (out_of R sheet b p).1 → Afterwards R sheet s.books s.place e more → Prints R sheet b p (run_lines s ++ more)
-      go SheetEnd is h = subst (λ x. Prints R sheet b p (run_lines s ++ x)) (sym h) (at_last b p s SheetEnd (so SheetEnd is) (λ no. cc))
-      go Unreadable is h = subst (λ x. Prints R sheet b p (run_lines s ++ x)) (sym h) (at_last b p s Unreadable (so Unreadable is) (λ no. cc))
-      go NoRoom is h = and_on b p s more (so NoRoom is) h
+further_is : (R : Rules) (sheet : List ℕ) (x : State × Ended) → and_further (all_runs R sheet) x ≡ x.0 ∷ runs_after R sheet x.1 x.0.books x.0.place
+further_is R sheet (s, SheetEnd) = refl
+further_is R sheet (s, Unreadable e) = refl
+further_is R sheet (s, NoRoom) = refl
 
-  -- the calls of a run, and then those that came after it
-  pub calls_then : (us : List Turn) → calls_of us ≡ calls_to_come sheet ended p' → calls_of ((out_of R sheet b p).0.turns ++ us) ≡ calls_in (items_of sheet p)
-  calls_then us e = map-append (λ u. u.call) (out_of R sheet b p).0.turns us ∙ ap (λ x. calls_of (out_of R sheet b p).0.turns ++ x) e ∙ sym m.once
+-- what one run with empty rolls left, and what is promised of it
+pub record NextRun (R : Rules) (sheet : List ℕ) (b : Books) (p : ℕ) (ended : Ended) (b' : Books) (p' : ℕ) : Type 0 where
+  pub ends : ended ≡ (run_at R sheet b p).1
+  pub books : b' ≡ (run_at R sheet b p).0.books
+  pub place : p' ≡ (run_at R sheet b p).0.place
+  pub once : calls_in (items_of sheet p) ≡ calls_of (run_at R sheet b p).0.turns ++ calls_after sheet ended p'
+  pub parts : told R b (items_of sheet p) ≡ and_then (run_at R sheet b p).0.entries (run_at R sheet b p).0.notes (to_come R sheet ended b' p')
+  pub room : All (λ u. most_entries ≤ u.free) (run_at R sheet b p).0.turns
+  pub by_turns : (run_at R sheet b p).0.entries ≡ entries_in (run_at R sheet b p).0.turns
+  pub leads : (o : Opening) (us : List Turn) → Reached R o us b → Reached R o (us ++ (run_at R sheet b p).0.turns) b'
 
-  -- a run, and what is promised after it
-  pub led_then : (more : List ℕ) → LedOn R sheet b' p' ended more → LedOn R sheet b p NoRoom (run_lines (out_of R sheet b p).0 ++ more)
-  led_then more h =
-      let s : State = (out_of R sheet b p).0 in
+module _ (R : Rules) (sheet : List ℕ) (short : length sheet ≤ longest) (b : Books) (p : ℕ) (ended : Ended) (b' : Books) (p' : ℕ) (m : NextRun R sheet b p ended b' p') where
+  pub runs_are : all_runs R sheet b p ≡ (run_at R sheet b p).0 ∷ runs_after R sheet ended b' p'
+  runs_are =
+      let s : State = (run_at R sheet b p).0 in
+      runs_step R sheet short b p ∙ further_is R sheet (run_at R sheet b p)
+      ∙ ap (λ e. s ∷ runs_after R sheet e s.books s.place) (sym m.ends) ∙ ap (λ k. s ∷ runs_after R sheet ended k s.place) (sym m.books) ∙ ap (λ k. s ∷ runs_after R sheet ended b' k) (sym m.place)
+
+  -- the lines of a run, and then those to come
+  pub lines_are : lines_after R sheet NoRoom b p ≡ lines_of (run_at R sheet b p).0 ++ lines_after R sheet ended b' p'
+  lines_are =
+      let s : State = (run_at R sheet b p).0 in
+      ap (lines_of_runs b) runs_are ∙ lines_then b (s ∷ []) (runs_after R sheet ended b' p')
+      ∙ ap (λ x. x ++ lines_of_runs s.books (runs_after R sheet ended b' p')) (flat_map-cons lines_of s [] ∙ append-nil (lines_of s))
+      ∙ ap (λ k. lines_of s ++ lines_of_runs k (runs_after R sheet ended b' p')) (sym m.books)
+
+  -- a run, and what is promised of those after it
+  pub led_then : (rs : List State) → LedOn R sheet b' p' ended rs → LedOn R sheet b p NoRoom ((run_at R sheet b p).0 ∷ rs)
+  led_then rs h =
+      let s : State = (run_at R sheet b p).0 in
+      let turns : turns_in (s ∷ rs) ≡ s.turns ++ turns_in rs = flat_map-cons (λ x. x.turns) s rs in
+      let entries : flat_map (λ x. x.entries) (s ∷ rs) ≡ s.entries ++ flat_map (λ x. x.entries) rs = flat_map-cons (λ x. x.entries) s rs in
+      let notes : flat_map (λ x. x.notes) (s ∷ rs) ≡ s.notes ++ flat_map (λ x. x.notes) rs = flat_map-cons (λ x. x.notes) s rs in
       record {
-        turns = s.turns ++ h.turns;
-        books = h.books;
-        calls = calls_then h.turns h.calls;
-        leads = λ minimum maximum tray us r.
-            subst (λ x. Reached R minimum maximum tray x h.books) (append_assoc us s.turns h.turns) (h.leads minimum maximum tray (us ++ s.turns) (m.leads minimum maximum tray us r));
-        meant = h.meant ∙ sym m.parts;
-        before = run_lines s ++ h.before;
-        last = ap (λ x. run_lines s ++ x) h.last ∙ sym (append_assoc (run_lines s) h.before (printed_closing (closing_of h.books)));
+        calls = ap calls_of turns ∙ map-append (λ u. u.call) s.turns (turns_in rs) ∙ ap (λ x. calls_of s.turns ++ x) h.calls ∙ sym m.once;
+        room = subst (All (λ u. most_entries ≤ u.free)) (sym turns) (All-append (λ u. most_entries ≤ u.free) s.turns (turns_in rs) m.room h.room);
+        leads = λ o us r.
+            subst (λ x. Reached R o (us ++ x) (left_by s.books rs)) (sym turns)
+            (subst (λ x. Reached R o (us ++ (s.turns ++ turns_in rs)) (left_by x rs)) m.books
+            (subst (λ x. Reached R o x (left_by b' rs)) (append_assoc us s.turns (turns_in rs)) (h.leads o (us ++ s.turns) (m.leads o us r))));
+        meant = ap (λ x. let u : Told = record { books = left_by x rs; entries = flat_map (λ z. z.entries) (s ∷ rs); notes = flat_map (λ z. z.notes) (s ∷ rs) } in u) (sym m.books)
+            ∙ ap (λ x. let u : Told = record { books = left_by b' rs; entries = x; notes = flat_map (λ z. z.notes) (s ∷ rs) } in u) entries
+            ∙ ap (λ x. let u : Told = record { books = left_by b' rs; entries = s.entries ++ flat_map (λ z. z.entries) rs; notes = x } in u) notes
+            ∙ ap (and_then s.entries s.notes) h.meant ∙ sym m.parts;
+        written = entries ∙ ap (λ x. x ++ flat_map (λ z. z.entries) rs) m.by_turns ∙ ap (λ x. entries_in s.turns ++ x) h.written
+            ∙ sym (flat_map-append (λ u. u.entries) s.turns (turns_in rs)) ∙ ap entries_in (sym turns);
       }
+
+-- after a run that did not stop for want of room none is to come
+none_after : (R : Rules) (sheet : List ℕ) (b : Books) (p : ℕ) (ended : Ended) → (ended ≢ NoRoom) → runs_after R sheet ended b p ≡ []
+none_after R sheet b p SheetEnd over = refl
+none_after R sheet b p (Unreadable e) over = refl
+none_after R sheet b p NoRoom over = absurd (over refl)
+
+none_led : (R : Rules) (sheet : List ℕ) (b : Books) (p : ℕ) (ended : Ended) → (ended ≢ NoRoom) → LedOn R sheet b p ended []
+none_led R sheet b p SheetEnd over = record { calls = refl; room = λ k d lt. absurd (omega arith); leads = λ o us r. subst (λ x. Reached R o x b) (sym (append-nil us)) r; meant = refl; written = refl }
+none_led R sheet b p (Unreadable e) over = record { calls = refl; room = λ k d lt. absurd (omega arith); leads = λ o us r. subst (λ x. Reached R o x b) (sym (append-nil us)) r; meant = refl; written = refl }
+none_led R sheet b p NoRoom over = absurd (over refl)
+
+-- how far printing has come: the runs that are printed, and what is still to come
+pub record Going (sheet : List ℕ) (t : OpenTable) (p : ℕ) (first : Ended) (page : List ℕ) (t' : OpenTable) (p' : ℕ) (ended : Ended) (page' : List ℕ) : Type 0 where
+  pub done : List State
+  pub printed : page' ≡ page ++ concat (flat_map lines_of done)
+  pub runs : runs_after (rules_at t) sheet first (books_at t) p ≡ done ++ runs_after (rules_at t) sheet ended (books_at t') p'
+  pub left : books_at t' ≡ left_by (books_at t) done
+  pub led : LedOn (rules_at t) sheet (books_at t') p' ended (runs_after (rules_at t) sheet ended (books_at t') p') → LedOn (rules_at t) sheet (books_at t) p first (runs_after (rules_at t) sheet first (books_at t) p)
+  pub game : t'.table.game ≡ t.table.game
 
 module _ (sheet : List ℕ) (t : OpenTable) (p : ℕ) (first : Ended) (page : List ℕ) where
   pub going_starts : Going sheet t p first page t p first page
-  going_starts = record { text = []; printed = sym (append-nil page); rest = λ more a. a; led = λ more h. h; game = refl }
+  going_starts = record { done = []; printed = sym (append-nil page); runs = refl; left = refl; led = λ h. h; game = refl }
 
-  pub going_on : (t' : OpenTable) (p' : ℕ) (page' : List ℕ) (ended : Ended) (t'' : OpenTable) (p'' : ℕ) (page'' : List ℕ)
-      → Going sheet t p first page t' p' NoRoom page' → t''.table.game ≡ t'.table.game → NextRun (rules_at t') sheet (books_at t') p' page' ended (books_at t'') p'' page'' → Going sheet t p first page t'' p'' ended page''
-  going_on t' p' page' ended t'' p'' page'' h game m' =
+  -- the lines are those printed and those to come
+  pub lines_parted : (t' : OpenTable) (p' : ℕ) (ended : Ended) (page' : List ℕ) → (h : Going sheet t p first page t' p' ended page')
+      → lines_after (rules_at t) sheet first (books_at t) p ≡ flat_map lines_of h.done ++ lines_after (rules_at t) sheet ended (books_at t') p'
+  lines_parted t' p' ended page' h =
+      let rest = runs_after (rules_at t) sheet ended (books_at t') p' in
+      ap (lines_of_runs (books_at t)) h.runs ∙ lines_then (books_at t) h.done rest ∙ ap (λ k. flat_map lines_of h.done ++ lines_of_runs k rest) (sym h.left)
+
+  -- what is printed in part of what is to come is so of all
+  pub going_part : (t' : OpenTable) (p' : ℕ) (ended : Ended) (page' page'' : List ℕ) → Going sheet t p first page t' p' ended page'
+      → PrintedInPart (lines_after (rules_at t) sheet ended (books_at t') p') page' page'' → PrintedInPart (lines_after (rules_at t) sheet first (books_at t) p) page page''
+  going_part t' p' ended page' page'' h part =
+      subst (λ ls. PrintedInPart ls page page'') (sym (lines_parted t' p' ended page' h)) (part_behind (flat_map lines_of h.done) (lines_after (rules_at t) sheet ended (books_at t') p') page page' page'' h.printed part)
+
+  pub going_on : length sheet ≤ longest → (t' : OpenTable) (p' : ℕ) (page' : List ℕ) (ended : Ended) (t'' : OpenTable) (p'' : ℕ) (page'' : List ℕ)
+      → Going sheet t p first page t' p' NoRoom page' → t''.table.game ≡ t'.table.game → NextRun (rules_at t) sheet (books_at t') p' ended (books_at t'') p''
+      → page'' ≡ page' ++ concat (lines_of (run_at (rules_at t) sheet (books_at t') p').0) → Going sheet t p first page t'' p'' ended page''
+  going_on short t' p' page' ended t'' p'' page'' h game m printed =
       let R = rules_at t in
-      let m : NextRun R sheet (books_at t') p' page' ended (books_at t'') p'' page'' = subst (λ r. NextRun r sheet (books_at t') p' page' ended (books_at t'') p'' page'') (ap rules_of h.game) m' in
-      let lines = run_lines (out_of R sheet (books_at t') p').0 in
+      let s : State = (run_at R sheet (books_at t') p').0 in
+      let is = runs_are R sheet short (books_at t') p' ended (books_at t'') p'' m in
       record {
-        text = h.text ++ lines;
-        printed = m.printed ∙ ap (λ x. x ++ lines) h.printed ∙ append_assoc page h.text lines;
-        rest = λ more a. subst (Afterwards R sheet (books_at t) p first) (sym (append_assoc h.text lines more)) (h.rest (lines ++ more) (run_then R sheet (books_at t') p' page' ended (books_at t'') p'' page'' m more a));
-        led = λ more a. subst (LedOn R sheet (books_at t) p first) (sym (append_assoc h.text lines more)) (h.led (lines ++ more) (led_then R sheet (books_at t') p' page' ended (books_at t'') p'' page'' m more a));
+        done = h.done ++ s ∷ [];
+        printed = printed ∙ ap (λ x. x ++ concat (lines_of s)) h.printed ∙ concat_then page (flat_map lines_of h.done) (lines_of s)
+            ∙ ap (λ x. page ++ concat x) (ap (λ x. flat_map lines_of h.done ++ x) (sym (flat_map-cons lines_of s [] ∙ append-nil (lines_of s))) ∙ sym (flat_map-append lines_of h.done (s ∷ [])));
+        runs = h.runs ∙ ap (λ x. h.done ++ x) is ∙ sym (append_assoc h.done (s ∷ []) (runs_after R sheet ended (books_at t'') p''));
+        left = m.books ∙ sym (left_append (books_at t) h.done (s ∷ []));
+        led = λ a. h.led (subst (LedOn R sheet (books_at t') p' NoRoom) (sym is) (led_then R sheet short (books_at t') p' ended (books_at t'') p'' m (runs_after R sheet ended (books_at t'') p'') a));
         game = game ∙ h.game;
       }
 
--- after a run that did not stop for want of room nothing is to come, and the closing line is printed
-module _ (R : Rules) (sheet : List ℕ) (b : Books) (p : ℕ) where
-  none_led : (ended : Ended) → [] ≡ calls_to_come sheet ended p → b ≡ (to_come R sheet ended b p).books → LedOn R sheet b p ended (printed_closing (closing_of b))
-  none_led ended none same = record {
-    turns = [];
-    books = b;
-    calls = none;
-    leads = λ minimum maximum tray us r. subst (λ x. Reached R minimum maximum tray x b) (sym (append-nil us)) r;
-    meant = same;
-    before = [];
-    last = refl;
-  }
+  -- the closing line, printed or not, where no more runs come
+  module _ (t' : OpenTable) (p' : ℕ) (ended : Ended) (page' page'' : List ℕ) (h : Going sheet t p first page t' p' ended page') (over : ended ≢ NoRoom) where
+    last_line : lines_after (rules_at t) sheet ended (books_at t') p' ≡ printed_closing (closing_of (books_at t')) ∷ []
+    last_line = ap (lines_of_runs (books_at t')) (none_after (rules_at t) sheet (books_at t') p' ended over)
 
-  closed : (ended : Ended) → (ended ≢ NoRoom) → Afterwards R sheet b p ended (printed_closing (closing_of b)) × LedOn R sheet b p ended (printed_closing (closing_of b))
-  closed SheetEnd over = (refl, none_led SheetEnd refl refl)
-  closed Unreadable over = (refl, none_led Unreadable refl refl)
-  closed NoRoom over = absurd (over refl)
+    pub all_gone : page'' ≡ page' ++ printed_closing (closing_of (books_at t')) → page'' ≡ page ++ concat (lines_after (rules_at t) sheet first (books_at t) p)
+    all_gone printed =
+        let line = printed_closing (closing_of (books_at t')) in
+        printed ∙ ap (λ x. page' ++ x) (sym (one_line line)) ∙ ap (λ x. x ++ concat (line ∷ [])) h.printed ∙ concat_then page (flat_map lines_of h.done) (line ∷ [])
+        ∙ ap (λ x. page ++ concat (flat_map lines_of h.done ++ x)) (sym last_line) ∙ ap (λ x. page ++ concat x) (sym (lines_parted t' p' ended page' h))
 
--- the closing line, printed where no more runs come
-pub gone : (sheet : List ℕ) (t : OpenTable) (p : ℕ) (first : Ended) (page : List ℕ) (t' : OpenTable) (p' : ℕ) (ended : Ended) (page' page'' : List ℕ)
-    → Going sheet t p first page t' p' ended page' → (ended ≢ NoRoom) → page'' ≡ page' ++ printed_closing (closing_of (books_at t')) → GoneOn sheet t p first page page''
-gone sheet t p first page t' p' ended page' page'' h over printed =
-    let line = printed_closing (closing_of (books_at t')) in
-    let c = closed (rules_at t) sheet (books_at t') p' ended over in
-    record {
-      text = h.text ++ line;
-      afterwards = h.rest line c.0;
-      led_on = h.led line c.1;
-      printed = printed ∙ ap (λ x. x ++ line) h.printed ∙ append_assoc page h.text line;
-    }
+    pub all_led : LedOn (rules_at t) sheet (books_at t) p first (runs_after (rules_at t) sheet first (books_at t) p)
+    all_led = h.led (subst (LedOn (rules_at t) sheet (books_at t') p' ended) (sym (none_after (rules_at t) sheet (books_at t') p' ended over)) (none_led (rules_at t) sheet (books_at t') p' ended over))
+
+    pub last_wanting : page'' ≡ page' → PrintedInPart (lines_after (rules_at t) sheet first (books_at t) p) page page''
+    last_wanting same = going_part t' p' ended page' page'' h (subst (λ ls. PrintedInPart ls page' page'') (sym last_line) (none_in_part (printed_closing (closing_of (books_at t'))) [] page' page'' same))
 
 -- each run that stops for want of room has moved the place
-pub fewer : (R : Rules) (sheet : List ℕ) → length sheet ≤ longest → (b : Books) (p : ℕ) (page : List ℕ) (ended : Ended) (b' : Books) (p' : ℕ) (page' : List ℕ)
-    → NextRun R sheet b p page ended b' p' page' → turns_left sheet p' ended < turns_left sheet p NoRoom
-fewer R sheet short b p page SheetEnd b' p' page' m = omega arith
-fewer R sheet short b p page Unreadable b' p' page' m = omega arith
-fewer R sheet short b p page NoRoom b' p' page' m =
-    let on = moves_on R sheet short b p roll_places roll_places refl (sym m.ends) in
+pub fewer : (R : Rules) (sheet : List ℕ) → length sheet ≤ longest → (b : Books) (p : ℕ) (ended : Ended) (b' : Books) (p' : ℕ) → NextRun R sheet b p ended b' p' → turns_left sheet p' ended < turns_left sheet p NoRoom
+fewer R sheet short b p SheetEnd b' p' m = omega arith
+fewer R sheet short b p (Unreadable e) b' p' m = omega arith
+fewer R sheet short b p NoRoom b' p' m =
+    let on = moved R sheet short b p (sym m.ends) in
     omega (arith, on.0, on.1, m.place)
 
 -- what is free in a roll that keeps nothing
 free_all : {X : Type 0} (r : Roll X) (k : ℕ) → kept r ≡ [] → places r ≡ k → free r ≡ k
 free_all r k none long = omega (arith, ap length none, long)
 
--- a run with empty rolls, once it is printed
+-- what holds of each element by its place holds of all
+all_each : {X : Type 0} (P : X → Type 0) (xs : List X) → ((k : ℕ) (x : X) → k < length xs → x ≡ get_or xs k x → P x) → All P xs
+all_each P [] h k d lt = absurd (omega arith)
+all_each P (x ∷ xs) h zero d lt = h 0 x (omega arith) refl
+all_each P (x ∷ xs) h (suc k) d lt = all_each P xs (λ j y less e. h (suc j) y (omega (arith, less)) e) k d (omega (arith, lt))
+
+-- a run with empty rolls
 module _ (R : Rules) (sheet : List ℕ) (b : Books) (p : ℕ) (l : Roll Entry) (n : Roll Note) (ended : Ended) (b' : Books) (p' : ℕ) (l' : Roll Entry) (n' : Roll Note) (ready : Ready l n) (ran : Ran R sheet b p l n ended b' p' l' n') where
-  pub by_places : run_of R sheet b p (free l) (free n) ≡ out_of R sheet b p
+  pub by_places : run_of R sheet b p (free l) (free n) ≡ run_at R sheet b p
   by_places = ap (λ k. run_of R sheet b p k (free n)) (free_all l roll_places ready.no_entries ready.entries) ∙ ap (run_of R sheet b p roll_places) (free_all n roll_places ready.no_notes ready.notes)
 
-  ends_so : ended ≡ (out_of R sheet b p).1
-  ends_so = ran.ends ∙ ap (λ x. x.1) by_places
-
-  lines_so : lines_of printed_entry (kept l') ++ lines_of printed_note (kept n') ≡ run_lines (out_of R sheet b p).0
+  pub lines_so : run_lines (kept l') (kept n') ≡ lines_of (run_at R sheet b p).0
   lines_so =
-      ap (λ x. lines_of printed_entry x ++ lines_of printed_note (kept n')) (ran.ledger.kept_then ∙ ap (λ x. x ++ (run_of R sheet b p (free l) (free n)).0.entries) ready.no_entries)
-      ∙ ap (λ x. lines_of printed_entry (run_of R sheet b p (free l) (free n)).0.entries ++ lines_of printed_note x) (ran.notes.kept_then ∙ ap (λ x. x ++ (run_of R sheet b p (free l) (free n)).0.notes) ready.no_notes)
-      ∙ ap (λ x. run_lines x.0) by_places
+      ap (λ x. run_lines x (kept n')) (ran.ledger.kept_then ∙ ap (λ x. x ++ (run_of R sheet b p (free l) (free n)).0.entries) ready.no_entries)
+      ∙ ap (λ x. run_lines (run_of R sheet b p (free l) (free n)).0.entries x) (ran.notes.kept_then ∙ ap (λ x. x ++ (run_of R sheet b p (free l) (free n)).0.notes) ready.no_notes)
+      ∙ ap (λ x. lines_of x.0) by_places
 
-  pub one_run : (page page' : List ℕ) → page' ≡ page ++ (lines_of printed_entry (kept l') ++ lines_of printed_note (kept n')) → NextRun R sheet b p page ended b' p' page'
-  one_run page page' printed = record {
-    ends = ends_so;
-    books = ran.books ∙ ap (λ x. x.0.books) by_places;
-    place = ran.place ∙ ap (λ x. x.0.place) by_places;
-    printed = printed ∙ ap (λ x. page ++ x) lines_so;
-    once = once_with R sheet b p roll_places roll_places ended p' ends_so (ran.each_once ∙ ap (λ x. calls_of x.0.turns ++ calls_in (items_of sheet p')) by_places);
-    parts = ap (λ x. x.books) ran.parts;
-    leads = λ minimum maximum tray us r. subst (λ x. Reached R minimum maximum tray (us ++ x.0.turns) b') by_places (ran.leads minimum maximum tray us r);
-  }
+  pub one_run : NextRun R sheet b p ended b' p'
+  one_run =
+      let ends : ended ≡ (run_at R sheet b p).1 = ran.ends ∙ ap (λ x. x.1) by_places in
+      record {
+        ends = ends;
+        books = ran.books ∙ ap (λ x. x.0.books) by_places;
+        place = ran.place ∙ ap (λ x. x.0.place) by_places;
+        once = once_with R sheet b p roll_places roll_places ended p' ends (ran.each_once ∙ ap (λ x. calls_of x.0.turns ++ calls_in (items_of sheet p')) by_places);
+        parts = ran.parts ∙ ap (λ x. and_then x.0.entries x.0.notes (to_come R sheet ended b' p')) by_places;
+        room = subst (λ x. All (λ u. most_entries ≤ u.free) x.0.turns) by_places
+            (all_each (λ u. most_entries ≤ u.free) (run_of R sheet b p (free l) (free n)).0.turns (λ k u lt e. (ran.stops.room k u lt e).seven));
+        by_turns = subst (λ x. x.0.entries ≡ entries_in x.0.turns) by_places ran.by_turns;
+        leads = λ o us r. subst (λ x. Reached R o (us ++ x.0.turns) b') by_places (ran.leads o us r);
+      }
 
   pub emptied : (l₁ : Roll Entry) (n₁ : Roll Note) → Emptied l' l₁ → Emptied n' n₁ → Ready l₁ n₁
   emptied l₁ n₁ le ne = record {
@@ -191,75 +253,52 @@ module _ (R : Rules) (sheet : List ℕ) (b : Books) (p : ℕ) (l : Roll Entry) (
     notes = ne.as_many ∙ ran.notes.as_many ∙ ready.notes;
   }
 
--- the same from where a loop has come to, as the code has it
+-- one more run from where a loop has come to, as the code has it
 module _ (s s' : Bor (List ℕ)) (still : s' ≡ s) (short : length s.now ≤ longest) (t : OpenTable) (p : ℕ) (first : Ended) (page : List ℕ)
     (t' : OpenTable) (p' : ℕ) (e : Ended) (page' : List ℕ) (stopped : e ≡ NoRoom) (h : Going s.now t p first page t' p' e page') (l : Roll Entry) (n : Roll Note) (ready : Ready l n)
-    (r : Result Ended Refusal) (ended : Ended) (well : r ≡ Ok ended) (t'' : OpenTable) (p'' : ℕ) (l₁ : Roll Entry) (n₁ : Roll Note) (run : SheetRun t' s'.now p' l n r t'' p'' l₁ n₁)
-    (l' : Roll Entry) (n' : Roll Note) (page'' : List ℕ) (printed : page'' ≡ page' ++ (lines_of printed_entry (kept l₁) ++ lines_of printed_note (kept n₁))) (le : Emptied l₁ l') (ne : Emptied n₁ n') where
-  here : SheetRun t' s.now p' l n (Ok ended) t'' p'' l₁ n₁
-  here = subst (λ x. SheetRun t' x.now p' l n (Ok ended) t'' p'' l₁ n₁) still (subst (λ x. SheetRun t' s'.now p' l n x t'' p'' l₁ n₁) well run)
+    (r : Result Ended Refusal) (ended : Ended) (well : r ≡ Ok ended) (t'' : OpenTable) (p'' : ℕ) (l₁ : Roll Entry) (n₁ : Roll Note) (run : SheetRun t' s'.now p' l n r t'' p'' l₁ n₁) where
+  ran : Ran (rules_at t) s.now (books_at t') p' l n ended (books_at t'') p'' l₁ n₁
+  ran =
+      let here : SheetRun t' s.now p' l n (Ok ended) t'' p'' l₁ n₁ = subst (λ x. SheetRun t' x.now p' l n (Ok ended) t'' p'' l₁ n₁) still (subst (λ x. SheetRun t' s'.now p' l n x t'' p'' l₁ n₁) well run) in
+      subst (λ g. Ran (rules_of g) s.now (books_at t') p' l n ended (books_at t'') p'' l₁ n₁) h.game here.answered.1
 
-  next : NextRun (rules_at t') s.now (books_at t') p' page' ended (books_at t'') p'' page''
-  next = one_run (rules_at t') s.now (books_at t') p' l n ended (books_at t'') p'' l₁ n₁ ready here.answered.1 page' page'' printed
+  game_same : t''.table.game ≡ t'.table.game
+  game_same = run.game
 
-  pub one_more : record { nearer : turns_left s.now p'' ended < turns_left s.now p' e; ready : Ready l' n'; going : Going s.now t p first page t'' p'' ended page'' }
-  one_more = record {
-    nearer = subst (λ x. turns_left s.now p'' ended < turns_left s.now p' x) (sym stopped) (fewer (rules_at t') s.now short (books_at t') p' page' ended (books_at t'') p'' page'' next);
-    ready = emptied (rules_at t') s.now (books_at t') p' l n ended (books_at t'') p'' l₁ n₁ ready here.answered.1 l' n' le ne;
-    going = going_on s.now t p first page t' p' page' ended t'' p'' page'' (subst (λ x. Going s.now t p first page t' p' x page') stopped h) here.game next;
+  next : NextRun (rules_at t) s.now (books_at t') p' ended (books_at t'') p''
+  next = one_run (rules_at t) s.now (books_at t') p' l n ended (books_at t'') p'' l₁ n₁ ready ran
+
+  lines_here : run_lines (kept l₁) (kept n₁) ≡ lines_of (run_at (rules_at t) s.now (books_at t') p').0
+  lines_here = lines_so (rules_at t) s.now (books_at t') p' l n ended (books_at t'') p'' l₁ n₁ ready ran
+
+  stopped_there : Going s.now t p first page t' p' NoRoom page'
+  stopped_there = subst (λ x. Going s.now t p first page t' p' x page') stopped h
+
+  -- where its lines were printed
+  pub one_more : (l' : Roll Entry) (n' : Roll Note) (page'' : List ℕ) → page'' ≡ page' ++ concat (run_lines (kept l₁) (kept n₁)) → Emptied l₁ l' → Emptied n₁ n'
+      → record { nearer : turns_left s.now p'' ended < turns_left s.now p' e; ready : Ready l' n'; going : Going s.now t p first page t'' p'' ended page'' }
+  one_more l' n' page'' printed le ne = record {
+    nearer = subst (λ x. turns_left s.now p'' ended < turns_left s.now p' x) (sym stopped) (fewer (rules_at t) s.now short (books_at t') p' ended (books_at t'') p'' next);
+    ready = emptied (rules_at t) s.now (books_at t') p' l n ended (books_at t'') p'' l₁ n₁ ready ran l' n' le ne;
+    going = going_on s.now t p first page short t' p' page' ended t'' p'' page'' stopped_there game_same next (printed ∙ ap (λ x. page' ++ concat x) lines_here);
   }
 
--- the first run of a sheet and all that comes after it, printed
-pub all_printed : (sheet : List ℕ) (l : Roll Entry) (n : Roll Note) (t : OpenTable) (ended : Ended) (p' : ℕ) (l₁ : Roll Entry) (n₁ : Roll Note) (page page' page'' : List ℕ) → Ready l n → RunningFrom sheet 0 l n t ended p' l₁ n₁
-    → page' ≡ page ++ (lines_of printed_entry (kept l₁) ++ lines_of printed_note (kept n₁)) → GoneOn sheet t p' ended page' page'' → Page sheet page page''
-unfolding led_then
-all_printed sheet l n t ended p' l₁ n₁ page page' page'' r b printed g =
-    let c = b.conditions in
-    let R = rules_at t in
-    let first : Books = opened c.minimum c.maximum b.tray in
-    let behind : ℕ = width_of (Open c b.tray) in
-    let s : State = (out_of R sheet first behind).0 in
-    let m : NextRun R sheet first behind page ended (books_at t) p' page' = one_run R sheet first behind l n ended (books_at t) p' l₁ n₁ r b.ran page page' printed in
-    let led = g.led_on in
-    let all : LedOn R sheet first behind NoRoom (run_lines s ++ g.text) = led_then R sheet first behind page ended (books_at t) p' page' m g.text led in
-    let whole : Reached R c.minimum c.maximum b.tray s.turns (books_at t) = subst (λ x. Reached R c.minimum c.maximum b.tray x.0.turns (books_at t)) (by_places R sheet first behind l n ended (books_at t) p' l₁ n₁ r b.ran) b.whole in
-    let reached : Reached R c.minimum c.maximum b.tray all.turns all.books = led.leads c.minimum c.maximum b.tray s.turns whole in
-    record {
-      text = run_lines s ++ g.text;
-      printed_of = played c b.tray t.table.game (run_lines s ++ g.text) b.reads b.accepted b.game (run_then R sheet first behind page ended (books_at t) p' page' m g.text g.afterwards)
-          (record {
-            turns = all.turns;
-            books = all.books;
-            calls = all.calls;
-            reached = reached;
-            meant = all.meant;
-            before = all.before;
-            last = all.last;
-            adds_up = omega (arith, reached.chips_add_up, parts_add_up all.books.seats);
-          });
-      printed = g.printed ∙ ap (λ x. x ++ g.text) m.printed ∙ append_assoc page (run_lines s) g.text;
-    }
+  -- and where they were printed in part
+  pub one_wanting : (page'' : List ℕ) → PrintedInPart (run_lines (kept l₁) (kept n₁)) page' page'' → PrintedInPart (lines_after (rules_at t) s.now first (books_at t) p) page page''
+  one_wanting page'' part =
+      going_part s.now t p first page t' p' NoRoom page' page'' stopped_there
+      (subst (λ ls. PrintedInPart ls page' page'') (sym (lines_are (rules_at t) s.now short (books_at t') p' ended (books_at t'') p'' next))
+      (part_more (lines_of (run_at (rules_at t) s.now (books_at t') p').0) (lines_after (rules_at t) s.now ended (books_at t'') p'') page' page'' (subst (λ ls. PrintedInPart ls page' page'') lines_here part)))
 
--- a page on which nothing was printed, and one with the note that ends the program
-pub none_printed : (sheet page : List ℕ) → read_at sheet 0 ≡ Ok None → Page sheet page page
-none_printed sheet page e = record { text = []; printed_of = empty e; printed = sym (append-nil page) }
-
-pub note_printed : (sheet page page' : List ℕ) (note : Note) → note.place ≡ 0 → Some note.refusal ≡ first_refusal (read_at sheet 0) → page' ≡ page ++ printed_note note → Page sheet page page'
-note_printed sheet page page' note at e printed =
-    let is : note ≡ note_of 0 note.refusal = ap (λ k. let u : Note = record { place = k; refusal = note.refusal } in u) at in
-    record { text = printed_note (note_of 0 note.refusal); printed_of = refused note.refusal e; printed = printed ∙ ap (λ x. page ++ printed_note x) is }
-
--- what beginning with a reader at the first byte of a sheet came to
-pub begun_whole : (s s' : Bor (List ℕ)) (p : ℕ) → s' ≡ s → p ≡ 0 → (l : Roll Entry) (n : Roll Note) (r r' : Result (Option Begun) Note) (p' : ℕ) (l' : Roll Entry) (n' : Roll Note) → r ≡ r' → SheetBegun s'.now p l n r p' l' n' → SheetBegun s.now 0 l n r' p' l' n'
-begun_whole s s' p is at l n r r' p' l' n' e b =
-    subst (λ x. SheetBegun s.now 0 l n x p' l' n') e (subst (λ x. SheetBegun s.now x l n r p' l' n') at (subst (λ x. SheetBegun x.now p l n r p' l' n') is b))
-
--- what follows from a printed line holds where the printing was answered to be right
+-- what follows from a printed line holds where the printing was answered to be right, and else what follows from a page left as it was
 pub where_printed : {E Q : Type 0} (r : Result (Unit {0}) E) (page page' line : List ℕ) → page' ≡ (if is_ok r then page ++ line else page) → (page' ≡ page ++ line → Q) → OnOk r Q
 where_printed (Ok x) page page' line is then_q = then_q is
 where_printed (Err e) page page' line is then_q = tt
 
--- a page behind which a line was printed, or not, still begins with what it held
-pub grown_printed : {E : Type 0} (r : Result (Unit {0}) E) (page text page' page'' line : List ℕ) → page' ≡ page ++ text → page'' ≡ (if is_ok r then page' ++ line else page') → Grown page page''
-grown_printed (Ok x) page text page' page'' line before is = record { more = text ++ line; behind = is ∙ ap (λ y. y ++ line) before ∙ append_assoc page text line }
-grown_printed (Err e) page text page' page'' line before is = record { more = text; behind = is ∙ before }
+pub where_wanting : {E Q : Type 0} (r : Result (Unit {0}) E) (page page' line : List ℕ) → page' ≡ (if is_ok r then page ++ line else page) → (page' ≡ page → Q) → OnErr r Q
+where_wanting (Ok x) page page' line is then_q = tt
+where_wanting (Err e) page page' line is then_q = then_q is
+
+pub on_any_ok : {T E P : Type 0} (r : Result T E) → P → OnOk r P
+on_any_ok (Ok x) p = p
+on_any_ok (Err e) p = tt

@@ -1,3 +1,5 @@
 pub mod AllCalls
-pub mod Going
 pub mod Cutting
+pub mod Going
+pub mod Parts
+pub mod Sheets

@@ -1,11 +1,14 @@
 // The terminal: a sheet settled from its first byte to its last, and the page that is printed of it.
 #![tactic(auto)]
 
-ghost use Rattle.std.specs.Prelude.{◌≡◌, ℕ, ◌≤◌, List, [], ◌++◌, length, OnOk};
+ghost use Rattle.std.specs.Prelude.{◌≡◌, ℕ, ◌≤◌, List, [], ◌++◌, length, OnOk, OnErr};
+ghost use Rattle.std.specs.List.{concat};
 ghost use Rattle.ledger.specs.Rolls.{kept};
-ghost use Rattle.lines.specs.Lines.{printed_entry, printed_note, lines_of};
 ghost use Rattle.sheet.specs.Reading.{longest};
-ghost use Rattle.terminal.specs.Pages.{Emptied, Ready, Grown, GoneOn, Page};
+ghost use Rattle.open_table.specs.Tables.{rules_at, books_at};
+ghost use Rattle.terminal.specs.Printed.{run_lines};
+ghost use Rattle.terminal.specs.Promised.{OneText};
+ghost use Rattle.terminal.specs.Pages.{Emptied, Ready, runs_after, lines_after, LedOn, PrintedInPart, Page, PageInPart};
 
 use ledger::entries::Entry;
 use ledger::notes::Note;
@@ -44,10 +47,10 @@ const NO_NOTE: Note = Note {
 
 // Prints what a run wrote, entries before notes, and empties both rolls.
 fn print_run(page: &mut Vec<u8>, rolls: &mut Rolls<'_>) -> Result<(), AllocError>
-    ensures printed { OnOk result (page.new.items ≡ page.old.items ++ (lines_of printed_entry (kept rolls.old.ledger) ++ lines_of printed_note (kept rolls.old.notes))) }
+    ensures printed { OnOk result (page.new.items ≡ page.old.items ++ concat (run_lines (kept rolls.old.ledger) (kept rolls.old.notes))) }
     ensures ledger { OnOk result (Emptied rolls.old.ledger rolls.new.ledger) }
     ensures notes { OnOk result (Emptied rolls.old.notes rolls.new.notes) }
-    ensures grown { Grown page.old.items page.new.items }
+    ensures in_part { OnErr result (PrintedInPart (run_lines (kept rolls.old.ledger) (kept rolls.old.notes)) page.old.items page.new.items) }
 {
     print_all(page, rolls.ledger.records())?;
     print_all(page, rolls.notes.records())?;
@@ -66,8 +69,9 @@ fn go_on(
 ) -> Result<(), AllocError>
     requires short { length reader.old.sheet.now ≤ longest }
     requires ready { Ready rolls.old.ledger rolls.old.notes }
-    ensures printed { OnOk result (GoneOn reader.old.sheet.now begun.table reader.old.place.at begun.ended page.old.items page.new.items) }
-    ensures grown { Grown page.old.items page.new.items }
+    ensures printed { OnOk result (page.new.items ≡ page.old.items ++ concat (lines_after (rules_at begun.table) reader.old.sheet.now begun.ended (books_at begun.table) reader.old.place.at)) }
+    ensures led_on { OnOk result (LedOn (rules_at begun.table) reader.old.sheet.now (books_at begun.table) reader.old.place.at begun.ended (runs_after (rules_at begun.table) reader.old.sheet.now begun.ended (books_at begun.table) reader.old.place.at)) }
+    ensures in_part { OnErr result (PrintedInPart (lines_after (rules_at begun.table) reader.old.sheet.now begun.ended (books_at begun.table) reader.old.place.at) page.old.items page.new.items) }
 {
     let Begun {
         mut table,
@@ -80,10 +84,14 @@ fn go_on(
     table.closing().print(page)
 }
 
-// Settles a sheet from its first byte, printing to the end of a page; where memory runs out, part of it may be printed.
+/// Settles a sheet from its first byte, and prints what is printed of it to the end of a page.
+///
+/// `Err` where an allocation failed: then the page has grown by the first few of those lines, each whole, and at least the last is missing.
+/// So a sheet of which nothing is printed is never an error.
 pub fn settle(page: &mut Vec<u8>, sheet: &[u8]) -> Result<(), AllocError>
     ensures printed { OnOk result (Page sheet.now page.old.items page.new.items) }
-    ensures grown { Grown page.old.items page.new.items }
+    ensures one_text { OneText sheet.now }
+    ensures in_part { OnErr result (PageInPart sheet.now page.old.items page.new.items) }
 {
     let mut entries = [NO_ENTRY; PLACES];
     let mut notes = [NO_NOTE; PLACES];

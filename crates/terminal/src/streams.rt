@@ -2,7 +2,7 @@
 ghost use Rattle.std.specs.Prelude.{ℕ, ◌<◌, List, Some, length};
 ghost use Rattle.sheet.specs.Reading.{longest};
 ghost use Rattle.byte_streams.specs.Streams.{Streams};
-ghost use Rattle.terminal.specs.Printed.{PrintedOf};
+ghost use Rattle.terminal.specs.Promised.{PrintedOf};
 
 use crate::settle;
 use byte_streams::error::StreamError;

@@ -6,7 +6,7 @@ use Rattle.std.specs.declared.io.Error.{Error}
 use Rattle.byte_streams.specs.declared.error.StreamError.{StreamError}
 use Rattle.byte_streams.specs.Streams.{Writes, Streams}
 use Rattle.sheet.specs.Reading.{longest}
-use Rattle.terminal.specs.Printed.{PrintedOf}
+use Rattle.terminal.specs.Promised.{PrintedOf}
 use Rattle.worked.specs.Named.{NamedOutput}
 
 named : (name bytes : List ℕ) (a b c d e : Option (List ℕ)) → Appends a b (codes "== ") → Appends b c name → Appends c d (10 ∷ []) → Writes (PrintedOf bytes) d e → Writes (NamedOutput name bytes) a e

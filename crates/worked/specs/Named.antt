@@ -1,6 +1,6 @@
 -- What is written of a named sheet.
 use Rattle.std.specs.Prelude.{◌≡◌, ℕ, List, ◌∷◌, ◌++◌, codes}
-use Rattle.terminal.specs.Printed.{PrintedOf}
+use Rattle.terminal.specs.Promised.{PrintedOf}
 
 -- `== `, the name and a line feed, and then what is printed of the sheet
 pub record NamedOutput (name sheet output : List ℕ) : Type 0 where

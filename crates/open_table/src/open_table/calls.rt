@@ -1,7 +1,9 @@
 // Opening a table, performing a command, and running a sheet.
 ghost use Rattle.std.specs.Prelude.{◌≡◌};
 ghost use Rattle.commands.specs.Calls.{call_of};
-ghost use Rattle.open_table.specs.Tables.{Opened, Done, SheetRun};
+ghost use Rattle.refusals.specs.Refusals.{Answers};
+ghost use Rattle.table.specs.Performing.{cause_in};
+ghost use Rattle.open_table.specs.Tables.{opening_causes, Opened, Done, SheetRun};
 
 use super::OpenTable;
 use commands::{Command, Conditions};
@@ -14,17 +16,27 @@ use run::rolls::Rolls;
 use run::running;
 use sheet::reader::Reader;
 use table::holdings::{LIMIT, Table};
+use table::opening::Opening;
 
 impl OpenTable {
-    // Opens any of the four games from a game number, conditions and a tray.
+    /// Opens a table at any of the four games from a game number, conditions and a tray.
+    ///
+    /// Refused with 9 where the tray is above 1,000,000,000,000 chips, and with 18 where the bounds of a stake are broken, there is no game of this number, or cap and odds are not what it asks;
+    /// where several hold, with the least. The refusal names no seat.
     pub fn open(conditions: Conditions, tray: u64) -> Result<OpenTable, Refusal>
-        ensures { Opened conditions tray result }
+        ensures opened { Opened conditions tray result }
+        ensures least { Answers (opening_causes conditions tray) (cause_in result) }
     {
         if tray > LIMIT {
             return Err(Refusal::new(Cause::TotalTooLarge, 0));
         }
         let game = AnyGame::new(conditions.game, conditions.cap, conditions.odds)?;
-        let table = Table::open(game, conditions.minimum, conditions.maximum, tray)?;
+        let opening = Opening {
+            minimum: conditions.minimum,
+            maximum: conditions.maximum,
+            tray,
+        };
+        let table = Table::open(game, opening)?;
         Ok(OpenTable { table })
     }
 

@@ -2,7 +2,7 @@
 use Rattle.std.proofs.Common.{◌≡◌, ◌+◌, length, take, IfSome, subst}
 use Rattle.sheet.specs.Reading.{longest}
 use Rattle.byte_streams.proofs.Cutting.{read_all}
-use Rattle.terminal.specs.Printed.{PrintedOf}
+use Rattle.terminal.specs.Promised.{PrintedOf}
 use Rattle.terminal.proofs.Cutting.{both_long}
 use Rattle.terminal.proofs.streams.settle_stream.Goals as goal
 

@@ -1,6 +1,6 @@
 -- The line is that of the note of a sheet that is too long.
 use Rattle.std.proofs.Common.{subst}
-use Rattle.terminal.specs.Printed.{PrintedOf}
+use Rattle.terminal.specs.Promised.{PrintedOf}
 use Rattle.terminal.proofs.Cutting.{long_prints, long_line}
 use Rattle.terminal.proofs.streams.too_long_note.Goals as goal
 

@@ -9,7 +9,7 @@ pub returns-then-not-does_stake-clause-books : goal.returns-then-not-does_stake-
 returns-then-not-does_stake-clause-books g c =
     let t = c.args.self.now in
     ap (with_seat t.books c.args.k) c.end_choice.ensures
-    ∙ idle_settled _ (g.met.G.Game.facts t.game) t.books c.args.k t.sound c.requires.seat (deal_of c.args.deal.now) c.requires.dealt (sym c.does_stake.ensures ∙ c.if-not-does_stake.true)
+    ∙ idle_settled _ (g.met.G.Game.facts t.game) t.books c.args.k t.sound c.requires.seat (deal_of c.args.deal.now) c.requires.dealt c.requires.may (sym c.does_stake.ensures ∙ c.if-not-does_stake.true)
 
 pub invariant_of-self-2 : goal.invariant_of-self-2
 invariant_of-self-2 g c =
