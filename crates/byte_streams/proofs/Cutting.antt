@@ -1,9 +1,9 @@
 -- Input that is cut behind one byte more than a program may read is read as the whole is.
-use Rattle.std.proofs.Common.{◌≡◌, ℕ, ◌+◌, ◌<◌, ◌≤◌, List, length, take, Some, None, Ok, Err, Option, Result, IfSome, refl, ap, subst, ⊎_elim, arith}
+use Rattle.std.proofs.Common.{◌≡◌, ℕ, ◌+◌, ◌<◌, ◌≤◌, List, length, take, Some, None, Ok, Err, Option, Result, IfSome, subst, ⊎_elim, arith}
 use Rattle.std.proofs.lemmas.List.{take_all, length-take-le}
 use Rattle.std.proofs.lemmas.Bool.{cases_lt}
 use Rattle.std.specs.declared.io.Error.{Error}
-use Rattle.byte_streams.specs.Streams.{Writes, WritesPart, WritesAll, Streams}
+use Rattle.byte_streams.specs.Streams.{WritesAll, Streams}
 use Rattle.byte_streams.specs.declared.error.StreamError.{StreamError}
 use Rattle.byte_streams.specs.declared.error.StreamError.TheVariants.{Reading, OutOfMemory, Writing}
 

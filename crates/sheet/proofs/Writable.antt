@@ -1,5 +1,5 @@
 -- A command that was read has no more cards than can be written, and so is written wherever there is room for it.
-use Rattle.std.proofs.Common.{◌≡◌, ℕ, ◌+◌, ◌≤◌, Bool, true, false, cond, not, eqb, ltb, leb, List, length, get_or, take, drop, Some, None, Ok, Err, Option, refl, ap, arith, ltb-false}
+use Rattle.std.proofs.Common.{◌≡◌, ℕ, ◌+◌, Bool, true, false, cond, not, ltb, leb, List, length, get_or, take, drop, Some, None, Ok, Err, Option, refl, arith, ltb-false}
 use Rattle.std.proofs.lemmas.Bool.{le-ltb, or_parts}
 use Rattle.std.proofs.lemmas.List.{length-take}
 use Rattle.refusals.specs.declared.Cause.{Cause}
@@ -7,9 +7,9 @@ use Rattle.refusals.specs.declared.Cause.TheVariants.{SheetTooLong}
 use Rattle.refusals.specs.Refusals.{first_cause, refused}
 use Rattle.refusals.proofs.Causes.{none_holds}
 use Rattle.commands.specs.Calls.{Call}
-use Rattle.sheet.specs.Format.{width, width_of}
+use Rattle.sheet.specs.Format.{width_of}
 use Rattle.sheet.specs.Reading.{row, all_zero, faults, call_in, unless, means, some_call, longest, read_at}
-use Rattle.sheet.specs.Writing.{too_many, write_at, IsWritable}
+use Rattle.sheet.specs.Writing.{too_many, IsWritable}
 use Rattle.sheet.proofs.Widths.{by_first}
 
 -- of bytes without a fault, a Deal counts no more than forty cards

@@ -1,5 +1,5 @@
 -- Each write moves its bytes from the rest to what was written; one that fails writes none.
-use Rattle.std.proofs.Common.{◌<◌, ◌++◌, length, take, rules, arith}
+use Rattle.std.proofs.Common.{◌<◌, ◌++◌, length, take, rules}
 use Rattle.std.proofs.KnownBytes.{Appends-trans}
 use Rattle.std.proofs.lemmas.Result.{err_from_is_err_and}
 use Rattle.byte_streams.proofs.KnownBytes.{moves_front, part_written}

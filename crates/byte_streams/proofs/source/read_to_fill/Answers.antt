@@ -1,5 +1,5 @@
 -- Each read puts its bytes behind those that were read.
-use Rattle.std.proofs.Common.{◌≡◌, ◌-◌, ◌≤◌, length, drop, ◌∙◌, arith, length-drop, length-take-le}
+use Rattle.std.proofs.Common.{◌≡◌, ◌-◌, length, drop, ◌∙◌, arith, length-drop, length-take-le}
 use borrow.Rule.Slice.PartMut.{same_len_mid}
 use Rattle.byte_streams.proofs.KnownBytes.{filled_more}
 use Rattle.byte_streams.proofs.source.read_to_fill.Goals as goal
