@@ -1,11 +1,11 @@
 #!/usr/bin/env python3
-"""Makes the bytes of the worked sheets, and what the program `worked` is run on and has to print.
+"""Makes the bytes of the worked sheets, and what the programs `worked` and `settle` are run on and have to print.
 
 A worked sheet, NAME.hex, is text: a line holds hexadecimal digits in groups, with spaces or tabs between groups; '#' begins
 a comment, up to the end of the line. A line '(' begins a block and a line '* N' ends it: the lines between stand N times in
 all. Blocks do not nest. NAME.out is what the sheet prints, worked out by hand.
 
-  make.py            writes crates/worked/data, args and stdout
+  make.py            writes crates/worked/data, args and stdout, and crates/settle/stdin and stdout
   make.py --check    only says whether they are what they should be (status 1 where they are not)
   make.py --bytes F  writes the bytes of one worked sheet to standard output
 """
@@ -15,6 +15,9 @@ import sys
 
 HERE = pathlib.Path(__file__).resolve().parent
 WORKED = HERE.parent / "crates" / "worked"
+SETTLE = HERE.parent / "crates" / "settle"
+# what `settle` is run on: a long sheet of which runs stop early for want of places, so that one that is cut would show
+SETTLED = "early-stop-entries"
 
 
 def convert(path):
@@ -46,6 +49,8 @@ def wanted():
         files[WORKED / "data" / f"{name}.sheet"] = convert(path)
         args += f"{name}.sheet\n"
         printed += f"== {name}.sheet\n".encode() + path.with_suffix(".out").read_bytes()
+    files[SETTLE / "stdin"] = convert(HERE / f"{SETTLED}.hex")
+    files[SETTLE / "stdout"] = (HERE / f"{SETTLED}.out").read_bytes()
     files[WORKED / "args"] = args.encode()
     files[WORKED / "stdout"] = printed
     return files
@@ -56,7 +61,7 @@ def main():
         sys.stdout.buffer.write(convert(pathlib.Path(sys.argv[2])))
         return
     files = wanted()
-    present = set((WORKED / "data").glob("*")) | {WORKED / "args", WORKED / "stdout"}
+    present = set((WORKED / "data").glob("*")) | {WORKED / "args", WORKED / "stdout", SETTLE / "stdin", SETTLE / "stdout"}
     if sys.argv[1:] == ["--check"]:
         wrong = [p.name for p, content in files.items() if not p.exists() or p.read_bytes() != content]
         wrong += [p.name for p in present - set(files)]

@@ -33,8 +33,8 @@ def function_at(source, line):
     lines = source.read_text().splitlines()[:line]
     here = [re.match(r"\s*(?:pub(?:\([a-z]+\))? )?(?:const )?fn (\w+)", l) for l in lines]
     named = [m.group(1) for m in here if m]
-    # a note points at the head of a function, or at what stands in it
-    after = source.read_text().splitlines()[line - 1 :]
+    # a note points at the head of a function or an attribute above it, or at what stands in it
+    after = [l for l in source.read_text().splitlines()[line - 1 :] if not l.lstrip().startswith("#[")]
     head = re.match(r"\s*(?:pub(?:\([a-z]+\))? )?(?:const )?fn (\w+)", after[0]) if after else None
     return head.group(1) if head else named[-1] if named else "?"
 
@@ -62,7 +62,7 @@ def tried(crate, copy, bugs):
         if not text.startswith("refused, as it must be:") or not m:
             answers.append((None, text))
             continue
-        goal = re.search(r"`([^`]+)`", m.group(3))
+        goal = re.search(r"\(`([^`]+)`\)", m.group(3)) or re.search(r"`([^`]+)`", m.group(3))
         where = copy / "crates" / crate / m.group(1)
         by = function_at(where, int(m.group(2))) if where.suffix == ".rt" else m.group(1).removeprefix("./")
         answers.append((f"{by}, {goal.group(1) if goal else m.group(3)[:60]}", text))

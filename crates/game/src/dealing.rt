@@ -5,13 +5,14 @@ ghost use Rattle.game.specs.Dealing.{judged};
 
 use refusals::Cause;
 
+/// Why cards are no lawful deal.
 #[derive(Clone, Copy, PartialEq, Eq, Debug)]
 pub enum Misdeal {
     NoCard,
     WrongCount,
 }
 
-// The judgement of a deal, by whether each card may stand in it, and how many there are and are called for.
+/// Returns `Ok` where each card may stand in the deal and there are as many as are called for; refuses a wrong card before a wrong number.
 pub fn judge(may_stand: bool, count: usize, called: usize) -> Result<(), Misdeal>
     ensures { result ≡ judged may_stand count called }
 {

@@ -2,28 +2,28 @@
 ghost use Rattle.std.specs.Prelude.{◌≡◌, ◌*◌, ◌^◌, ◌<◌};
 ghost use Rattle.game.specs.Odds.{postable, all_postable, all_unused, won};
 
-// Odds that may be posted are 1 to 1,000.
+/// Returns whether these odds, n to 1, may be posted: 1 to 1,000.
 pub fn is_postable(odds: u16) -> bool
     ensures { result ≡ postable odds }
 {
     (1..=1000).contains(&odds)
 }
 
-// Whether all of these odds may be posted.
+/// Returns whether all of these odds may be posted.
 pub fn are_postable(odds: &[u16]) -> bool
     ensures { result ≡ all_postable odds.now }
 {
     odds.iter().all(|&odds| is_postable(odds))
 }
 
-// Whether none of these odds are in use, so that each is 0.
+/// Returns whether none of these odds are in use: each is 0.
 pub fn are_unused(odds: &[u16]) -> bool
     ensures { result ≡ all_unused odds.now }
 {
     odds.iter().all(|&odds| odds == 0)
 }
 
-// A stake times its odds.
+/// Returns a stake times its odds, in chips: what it wins above itself.
 pub fn times(stake: u32, odds: u16) -> u64
     ensures product { result ≡ stake * odds }
     ensures bound { result < 2 ^ 48 }
@@ -31,7 +31,7 @@ pub fn times(stake: u32, odds: u16) -> u64
     stake as u64 * odds as u64
 }
 
-// A stake that wins at odds of n to 1 returns itself and n times itself.
+/// Returns what a stake that wins at odds of n to 1 brings, in chips: itself and n times itself.
 pub fn won(stake: u32, odds: u16) -> u64
     ensures told { result ≡ won stake odds }
     ensures bound { result < 2 ^ 49 }

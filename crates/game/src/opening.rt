@@ -1,11 +1,12 @@
 // What a game asks of the conditions that it is opened with.
-ghost use Rattle.game.specs.Opening.{Admitted};
+ghost use Rattle.std.specs.Prelude.{◌≡◌};
+ghost use Rattle.game.specs.Opening.{admitted};
 
 use refusals::{Cause, Refusal};
 
-// Admits conditions that are met, and refuses others with 18; the refusal names no seat.
+/// Returns `Ok` where the conditions are met, and otherwise refusal 18, which names no seat.
 pub fn admit(met: bool) -> Result<(), Refusal>
-    ensures { Admitted met result }
+    ensures { result ≡ admitted met }
 {
     if met {
         Ok(())

@@ -4,6 +4,7 @@ use makccarat::posted::Makccarat;
 use poker::fortune::posted::Fortune;
 use poker::stud::posted::Stud;
 
+/// One of the four games; Makccarat has two of them.
 #[derive(Drop)]
 pub enum AnyGame {
     Fortune(Fortune<ByRule>),

@@ -5,7 +5,7 @@ ghost use Rattle.games.specs.Checked.{CheckedDeals};
 
 use game::dealing::Misdeal;
 
-// The deals of all games as one fact; it answers what the two ways of Makccarat say of theirs.
+/// States the deals of all games as one fact; returns whether that of Makccarat is lawful in the first way and in the second.
 pub fn checked_deals() -> (Result<(), Misdeal>, Result<(), Misdeal>)
     ensures stands { CheckedDeals }
     ensures answers { result ≡ (Ok tt, Err WrongCount) }

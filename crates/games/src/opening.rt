@@ -10,7 +10,7 @@ use poker::stud::posted::Stud;
 use refusals::{Cause, Refusal};
 
 impl AnyGame {
-    // The game of this number at these conditions; where they are not the game's, or there is none of that number, refusal 18.
+    /// Returns the game of this number at these conditions; refuses with 18, which names no seat, where they are not the game's or there is none of that number.
     // Cap and odds come from a sheet's conditions, which the games do not know; a struct of the two would be filled here and taken apart in each of the three.
     pub fn new(number: u8, cap: u64, odds: [u16; 5]) -> Result<AnyGame, Refusal>
         ensures { Opened number cap odds result }

@@ -1,0 +1,4 @@
+mod Answered
+mod HandStates
+mod LineStates
+mod Parts

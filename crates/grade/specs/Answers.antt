@@ -1,8 +1,5 @@
 -- The answer for a line: the class of a hand, or the classes of two and which is higher, or why there is none.
-use Rattle.std.specs.Prelude.{◌≡◌, ℕ, ◌+◌, Bool, true, false, cond, ◌||◌, List, ◌++◌, length, take, drop, Some, None, Ok, Err, codes, decimal, Option, Result, ◌==◌}
-use Rattle.std.specs.Bool.{⊤}
-use Rattle.refusals.specs.Refusals.{number_of}
-use Rattle.refusals.specs.declared.Cause.{Cause}
+use Rattle.std.specs.Prelude.{ℕ, ◌+◌, cond, ◌||◌, List, ◌++◌, length, take, drop, Some, None, Ok, Err, codes, Option, Result, ◌==◌}
 use Rattle.refusals.specs.declared.Refusal.{Refusal}
 use Rattle.grading.specs.FiveClasses.{five_word}
 use Rattle.grading.specs.ThreeClasses.{three_word}
@@ -14,8 +11,6 @@ use Rattle.grade.specs.declared.answers.Answer.{Answer}
 use Rattle.grade.specs.declared.answers.Answer.TheVariants.{Threes, Fives}
 use Rattle.grade.specs.declared.answers.Graded.{Graded}
 use Rattle.grade.specs.declared.answers.Graded.TheVariants.{One, Two}
-use Rattle.grade.specs.declared.answers.Unanswered.{Unanswered}
-use Rattle.grade.specs.declared.answers.Unanswered.TheVariants.{OutOfMemory, Refused}
 
 -- what a value is made into; a refusal stays
 abbrev pub made : {X Y : Type 0} → (X → Y) → Result X Refusal → Result Y Refusal
@@ -61,12 +56,6 @@ by_bar line None = text_answer line
 abbrev pub line_answer : List ℕ → Result (Option Answer) Refusal
 line_answer line = by_bar line (bar_of line)
 
--- what is answered is the answer, and a refusal the refusal; memory may give out
-abbrev pub IsAnswer : Result (Option Answer) Unanswered → Result (Option Answer) Refusal → Type 0
-IsAnswer (Ok answer) a = Ok answer ≡ a
-IsAnswer (Err (Refused refusal)) a = Err refusal ≡ a
-IsAnswer (Err (OutOfMemory error)) a = ⊤
-
 -- the word for the outcome of a comparison
 abbrev pub outcome_word : Comparison → List ℕ
 outcome_word Lower = codes "second"
@@ -82,17 +71,3 @@ graded_text words (Two j k comparison) = words j ++ (codes " | " ++ (words k ++ 
 abbrev pub said : Answer → List ℕ
 said (Threes graded) = graded_text three_word graded
 said (Fives graded) = graded_text five_word graded
-
--- what a refusal says: for 12, and for any other number, which can only be 13
-abbrev pub meaning_if : Bool → List ℕ
-meaning_if true = codes "a word is no card, or a hand has one card twice"
-meaning_if false = codes "a hand has neither three nor five cards, or two hands differ in size"
-
--- what a refusal by grading says to a reader
-abbrev pub meaning_words : Cause → List ℕ
-meaning_words cause = meaning_if (number_of cause == 12)
-
--- what is printed where there is no answer
-abbrev pub why_said : Unanswered → List ℕ
-why_said (OutOfMemory error) = codes "out of memory"
-why_said (Refused refusal) = codes "refused " ++ (decimal (number_of refusal.cause) ++ (codes ": " ++ meaning_words refusal.cause))

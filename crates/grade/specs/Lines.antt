@@ -8,9 +8,13 @@ use Rattle.grade.specs.Words.{card_named}
 abbrev pub is_blank : ℕ → Bool
 is_blank b = b == 32 || (b == 9 || b == 13)
 
--- what stands between blanks; between two that are neighbours stands no word
+-- what stands between blanks is a word; between two that are neighbours stands none
+abbrev pub is_word : List ℕ → Bool
+is_word part = not (length part == 0)
+
+-- the words of a text
 abbrev pub words : List ℕ → List (List ℕ)
-words text = filter (λ word. not (length word == 0)) (slice_split is_blank text)
+words text = filter is_word (slice_split is_blank text)
 
 -- the card that a word names, or 0, which is no card
 abbrev pub card_read : List ℕ → ℕ

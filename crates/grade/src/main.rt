@@ -1,24 +1,41 @@
 // Grades hands: a line of standard input is one hand of three or five cards, or two with a bar between them.
 #![tactic(auto)]
 
-mod answers; // The answer for a line.
-mod lines; // Words between blanks, and the bar.
+mod answers; // The answer for one hand or two.
+mod faults; // Why a line has no answer.
+mod first_cards; // The first cards of a hand that is typed.
+mod hand; // A hand as it is typed.
+mod line; // A line as it is typed.
+mod streams; // Lines from any reader, answers to any writer.
 mod words; // Cards as people write them.
+#[cfg(test)]
+mod tests; // Inputs of any bytes.
 
-use answers::{Unanswered, answer_line};
-use std::io;
-use std::io::{BufRead, BufReader, BufWriter, Write};
+use std::io::{BufReader, BufWriter, Write};
+use std::process::ExitCode;
+use streams::{Failure, grade_lines};
 
-fn main(rt: HostRuntime) -> io::Result<()> {
-    let mut out = BufWriter::new(rt.alloc(), rt.stdout())?;
-    for line in BufReader::new(rt.alloc(), rt.stdin())?.lines(rt.alloc()) {
-        let line = line?;
-        match answer_line(rt.alloc(), line.as_bytes()) {
-            Ok(None) => {}
-            Ok(Some(answer)) => writeln!(out, "{answer}")?,
-            Err(Unanswered::OutOfMemory(error)) => return Err(error.into()),
-            Err(refused) => writeln!(out, "{refused}")?,
+// Standard input to standard output, through buffers of a fixed size.
+fn run(rt: &HostRuntime) -> Result<(), Failure> {
+    let Ok(reader) = BufReader::new(rt.alloc(), rt.stdin()) else {
+        return Err(Failure::Memory);
+    };
+    let Ok(mut writer) = BufWriter::new(rt.alloc(), rt.stdout()) else {
+        return Err(Failure::Memory);
+    };
+    grade_lines(reader, &mut writer)?;
+    match writer.flush() {
+        Ok(()) => Ok(()),
+        Err(error) => Err(Failure::Writing(error)),
+    }
+}
+
+fn main(rt: HostRuntime) -> ExitCode {
+    match run(&rt) {
+        Ok(()) => ExitCode::SUCCESS,
+        Err(failure) => {
+            let _ = eprintln!(rt; "grade: {failure}");
+            ExitCode::FAILURE
         }
     }
-    out.flush()
 }

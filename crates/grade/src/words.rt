@@ -1,6 +1,7 @@
 // Cards as people write them: a rank and the letter of a suit, in capital or small letters.
-ghost use Rattle.std.specs.Prelude.{◌≡◌};
+ghost use Rattle.std.specs.Prelude.{◌≡◌, ℕ, List, [], ◌∷◌, ◌++◌, length, ◌==◌};
 ghost use Rattle.grade.specs.Words.{capital as capital_of, rank_named, suit_named, card_from, card_named, below};
+ghost use Rattle.grade.specs.States.{word_of};
 
 // A small letter as a capital, any other byte as it is; with the call in place the proof of `card_of` did not close.
 fn capital(byte: u8) -> u8
@@ -55,5 +56,47 @@ pub fn card_of(word: &[u8]) -> Option<u8>
         [rank, suit] => card_from(rank_of(capital(*rank)), suit_of(capital(*suit))),
         [b'1', b'0', suit] => card_from(Some(10), suit_of(capital(*suit))),
         _ => None,
+    }
+}
+
+/// A word as far as it was typed: its bytes while it may still name a card, and no more of them.
+#[derive(Clone, Copy)]
+pub enum Word {
+    Empty,
+    One(u8),
+    Two(u8, u8),
+    Three(u8, u8, u8),
+    Longer,
+}
+
+impl Word {
+    /// Whether it has no byte, so that it is no word yet.
+    pub fn is_empty(self) -> bool
+        ensures { (bytes : List ℕ) → self ≡ word_of bytes → result ≡ (length bytes == 0) }
+    {
+        matches!(self, Word::Empty)
+    }
+
+    /// The word with one byte more.
+    pub fn with(self, byte: u8) -> Word
+        ensures { (bytes : List ℕ) → self ≡ word_of bytes → result ≡ word_of (bytes ++ byte ∷ []) }
+    {
+        match self {
+            Word::Empty => Word::One(byte),
+            Word::One(first) => Word::Two(first, byte),
+            Word::Two(first, second) => Word::Three(first, second, byte),
+            Word::Three(_, _, _) | Word::Longer => Word::Longer,
+        }
+    }
+
+    /// The card that the word names.
+    pub fn card(self) -> Option<u8>
+        ensures { (bytes : List ℕ) → self ≡ word_of bytes → result ≡ card_named bytes }
+    {
+        match self {
+            Word::Two(first, second) => card_of(&[first, second]),
+            Word::Three(first, second, third) => card_of(&[first, second, third]),
+            Word::Empty | Word::One(_) | Word::Longer => None,
+        }
     }
 }

@@ -1,8 +1,9 @@
 -- Five ranks from the highest: the code's class and ranks are the rule's, and the cards are of that class and of no other. Tested at all ranks is
 -- only how often each is held; the rest goes by which ranks are alike.
 use Rattle.std.proofs.Common.{◌≡◌, ℕ, zero, suc, ◌+◌, ◌-◌, ◌<◌, ◌≤◌, Bool, true, false, cond, ◌&&◌, ◌||◌, T, eqb, List, [], ◌∷◌, Some, None, Option, sym, refl, ap, ◌∙◌, subst, arith, lit<, eqb→eq}
-use Rattle.grading.specs.Ranks.{Held, held, sequence, head_at}
-use Rattle.grading.specs.Steps.{five_at, five_paired, five_apart, five_sorted}
+use Rattle.std.proofs.lemmas.Bool.Decides.{nat_tests}
+use Rattle.grading.specs.Ranks.{Held, held, runs_of_five, sequence}
+use Rattle.grading.specs.Steps.{head_at, five_at, five_paired, five_apart, five_sorted}
 use Rattle.grading.specs.Five.{five_is, five_class_by, five_ranked_at, five_ranked_by}
 use Rattle.grading.specs.FiveClasses.{five_below}
 use Rattle.grading.specs.declared.five.Ranked.{Ranked}
@@ -156,11 +157,15 @@ ruled level head h x k c r t = record {
 
 module _ (level : Bool) where
   abbrev Right : Held → Ranked → Type 0
-  Right h x = Ruled level (sequence 5 h.ones) h x
+  Right h x = Ruled level (sequence runs_of_five h.ones) h x
 
   by_cond : (t : Bool) (g h : Held) (x y : Ranked) → Right g x → Right h y → Right (cond t g h) (cond t x y)
   by_cond true g h x y p q = p
   by_cond false g h x y p q = q
+
+  by_last : (t : Bool) (g h : Held) (x y : Ranked) → Right g x → (t ≡ false → Right h y) → Right (cond t g h) (cond t x y)
+  by_last true g h x y p q = p
+  by_last false g h x y p q = q refl
 
   by_held : (t : Bool) (g h : Held) (x : Ranked) → Right g x → Right h x → Right (cond t g h) x
   by_held true g h x p q = p
@@ -168,6 +173,7 @@ module _ (level : Bool) where
 
   module _ (a b c d e : ℕ) where
     paired_right : Right (held_paired a b c d e) (five_paired a b c d e)
+    unfolding sequence
     paired_right =
         by_cond (eqb a b && eqb c d) _ _ _ _ (ruled level None _ _ TwoPairs refl refl tt)
         (by_cond (eqb a b && eqb d e) _ _ _ _ (ruled level None _ _ TwoPairs refl refl tt)
@@ -178,17 +184,24 @@ module _ (level : Bool) where
         (ruled level None _ _ Pair refl refl tt))))))
 
     four_right : Right (cond (eqb a e) (holding [] [] [] (c ∷ [])) (cond (eqb a d) (holding (e ∷ []) [] [] (c ∷ [])) (holding (a ∷ []) [] [] (c ∷ [])))) (five_at Four c 0 0 0 0)
+    unfolding sequence
     four_right =
         by_held (eqb a e) _ _ _ (ruled level None _ _ Four refl refl tt)
         (by_held (eqb a d) _ _ _ (ruled level None _ _ Four refl refl tt) (ruled level None _ _ Four refl refl tt))
 
     full_right : Right (cond (eqb a c) (holding [] (d ∷ []) (c ∷ []) []) (holding [] (a ∷ []) (c ∷ []) [])) (five_at FullHouse c 0 0 0 0)
+    unfolding sequence
     full_right = by_held (eqb a c) _ _ _ (ruled level None _ _ FullHouse refl refl tt) (ruled level None _ _ FullHouse refl refl tt)
 
     three_right : Right (cond (eqb a c) (holding (d ∷ e ∷ []) [] (c ∷ []) []) (cond (eqb b d) (holding (a ∷ e ∷ []) [] (c ∷ []) []) (holding (a ∷ b ∷ []) [] (c ∷ []) []))) (five_at Three c 0 0 0 0)
+    unfolding sequence
     three_right =
         by_held (eqb a c) _ _ _ (ruled level None _ _ Three refl refl tt)
         (by_held (eqb b d) _ _ _ (ruled level None _ _ Three refl refl tt) (ruled level None _ _ Three refl refl tt))
+
+or_none : (a b : Bool) → (a || b) ≡ false → (a ≡ false) × (b ≡ false)
+or_none true b t = cc
+or_none false b t = (refl, t)
 
 -- ---- five different ranks
 
@@ -234,12 +247,89 @@ small_head true t a h = h
 small_head false true a h = lit< tt
 small_head false false a h = tt
 
-apart_right : (level : Bool) (a b c d e : ℕ) → a < 15 → Right level (holding (a ∷ b ∷ c ∷ d ∷ e ∷ []) [] [] []) (five_apart (head_at 5 a b e) a b c d e level)
-apart_right level a b c d e h = apart_ruled level a b c d e (head_at 5 a b e) (small_head (eqb a (e + 4)) (eqb a 14 && eqb b 5) a h)
+-- ---- the head of the sequence that five different ranks are, tested at the 1,287 choices of them
+
+abbrev same_head : Option ℕ → Option ℕ → Bool
+same_head None None = true
+same_head None (Some n) = false
+same_head (Some m) None = false
+same_head (Some m) (Some n) = eqb m n
+
+head_from_same : (g h : Option ℕ) → T (same_head g h) → g ≡ h
+head_from_same None None t = refl
+head_from_same None (Some n) t = absurd t
+head_from_same (Some m) None t = absurd t
+head_from_same (Some m) (Some n) t = ap Some (eqb→eq m n t)
+
+abbrev headed_alike : ℕ → ℕ → ℕ → ℕ → ℕ → Bool
+headed_alike a b c d e = same_head (head_at 5 a b e) (sequence runs_of_five (a ∷ b ∷ c ∷ d ∷ e ∷ []))
+
+abbrev head_e : ℕ → ℕ → ℕ → ℕ → ℕ → Bool
+head_e a b c d e = headed_alike (a + 2) (b + 2) (c + 2) (d + 2) (e + 2)
+
+abbrev head_d : ℕ → ℕ → ℕ → ℕ → Bool
+head_d a b c d = below d (head_e a b c d)
+
+abbrev head_c : ℕ → ℕ → ℕ → Bool
+head_c a b c = below c (head_d a b c)
+
+abbrev head_b : ℕ → ℕ → Bool
+head_b a b = below b (head_c a b)
+
+abbrev head_a : ℕ → Bool
+head_a a = below a (head_b a)
+
+every_run : T (below 13 head_a)
+unfolding sequence
+every_run = tt
+
+-- different ranks from the highest
+record Apart (a b c d e : ℕ) : Type 0 where
+  highest : a ≤ 14
+  b_falls : b < a
+  c_falls : c < b
+  d_falls : d < c
+  e_falls : e < d
+  lowest : 2 ≤ e
+
+head_is_of_run : (a b c d e : ℕ) → Apart a b c d e → head_at 5 a b e ≡ sequence runs_of_five (a ∷ b ∷ c ∷ d ∷ e ∷ [])
+head_is_of_run a b c d e f =
+    let back_up : (n : ℕ) → 2 ≤ n → n - 2 + 2 ≡ n = λ n h. omega arith in
+    let t_a : T (head_a (a - 2)) = below_at 13 head_a every_run (a - 2) (omega arith) in
+    let t_b : T (head_b (a - 2) (b - 2)) = below_at (a - 2) (head_b (a - 2)) t_a (b - 2) (omega arith) in
+    let t_c : T (head_c (a - 2) (b - 2) (c - 2)) = below_at (b - 2) (head_c (a - 2) (b - 2)) t_b (c - 2) (omega arith) in
+    let t_d : T (head_d (a - 2) (b - 2) (c - 2) (d - 2)) = below_at (c - 2) (head_d (a - 2) (b - 2) (c - 2)) t_c (d - 2) (omega arith) in
+    let t_e : T (head_e (a - 2) (b - 2) (c - 2) (d - 2) (e - 2)) = below_at (d - 2) (head_e (a - 2) (b - 2) (c - 2) (d - 2)) t_d (e - 2) (omega arith) in
+    let s_a = subst (λ x. T (headed_alike x (b - 2 + 2) (c - 2 + 2) (d - 2 + 2) (e - 2 + 2))) (back_up a (omega arith)) t_e in
+    let s_b = subst (λ x. T (headed_alike a x (c - 2 + 2) (d - 2 + 2) (e - 2 + 2))) (back_up b (omega arith)) s_a in
+    let s_c = subst (λ x. T (headed_alike a b x (d - 2 + 2) (e - 2 + 2))) (back_up c (omega arith)) s_b in
+    let s_d = subst (λ x. T (headed_alike a b c x (e - 2 + 2))) (back_up d (omega arith)) s_c in
+    head_from_same _ _ (subst (λ x. T (headed_alike a b c d x)) (back_up e (omega arith)) s_d)
+
+-- ranks from the highest of which no two neighbours are alike
+apart_from : (a b c d e : ℕ) → Falling a b c d e → (eqb a b || (eqb b c || (eqb c d || eqb d e))) ≡ false → Apart a b c d e
+apart_from a b c d e f t =
+    let p = or_none (eqb a b) _ t in
+    let q = or_none (eqb b c) _ p.1 in
+    let r = or_none (eqb c d) _ q.1 in
+    let falls : (m n : ℕ) → n ≤ m → eqb m n ≡ false → n < m = λ m n h k. grind (arith, nat_tests) in
+    record {
+      highest = f.highest;
+      b_falls = falls a b f.b_falls p.0;
+      c_falls = falls b c f.c_falls q.0;
+      d_falls = falls c d f.d_falls r.0;
+      e_falls = falls d e f.e_falls r.1;
+      lowest = f.lowest;
+    }
+
+apart_right : (level : Bool) (a b c d e : ℕ) → Apart a b c d e → Right level (holding (a ∷ b ∷ c ∷ d ∷ e ∷ []) [] [] []) (five_apart (head_at 5 a b e) a b c d e level)
+apart_right level a b c d e f =
+    subst (λ head. Ruled level head (holding (a ∷ b ∷ c ∷ d ∷ e ∷ []) [] [] []) (five_apart (head_at 5 a b e) a b c d e level)) (head_is_of_run a b c d e f)
+    (apart_ruled level a b c d e (head_at 5 a b e) (small_head (eqb a (e + 4)) (eqb a 14 && eqb b 5) a (omega (arith, f.highest))))
 
 -- cards that hold these ranks are of the class that the rule gives them, and of no other
 abbrev pub Only : Bool → Held → Type 0
-Only level h = Sole level (sequence 5 h.ones) h (five_class_by (sequence 5 h.ones) h level)
+Only level h = Sole level (sequence runs_of_five h.ones) h (five_class_by (sequence runs_of_five h.ones) h level)
 
 -- the code's class and ranks are the rule's, and the cards are of no other class
 sorted_right : (level : Bool) (a b c d e : ℕ) → Falling a b c d e → Right level (held (among (a ∷ b ∷ c ∷ d ∷ e ∷ []))) (five_sorted a b c d e level)
@@ -248,10 +338,10 @@ sorted_right level a b c d e f =
     (by_cond level (eqb a d || eqb b e) _ _ _ _ (four_right level a b c d e)
     (by_cond level ((eqb a c && eqb d e) || (eqb a b && eqb c e)) _ _ _ _ (full_right level a b c d e)
     (by_cond level (eqb a c || (eqb b d || eqb c e)) _ _ _ _ (three_right level a b c d e)
-    (by_cond level (eqb a b || (eqb b c || (eqb c d || eqb d e))) _ _ _ _ (paired_right level a b c d e)
-    (apart_right level a b c d e (omega (arith, f.highest)))))))
+    (by_last level (eqb a b || (eqb b c || (eqb c d || eqb d e))) _ _ _ _ (paired_right level a b c d e)
+    (λ t. apart_right level a b c d e (apart_from a b c d e f t))))))
 
-pub sorted_is_rule : (level : Bool) (a b c d e : ℕ) → Falling a b c d e → five_sorted a b c d e level ≡ five_ranked_by (sequence 5 (held (among (a ∷ b ∷ c ∷ d ∷ e ∷ []))).ones) (held (among (a ∷ b ∷ c ∷ d ∷ e ∷ []))) level
+pub sorted_is_rule : (level : Bool) (a b c d e : ℕ) → Falling a b c d e → five_sorted a b c d e level ≡ five_ranked_by (sequence runs_of_five (held (among (a ∷ b ∷ c ∷ d ∷ e ∷ []))).ones) (held (among (a ∷ b ∷ c ∷ d ∷ e ∷ []))) level
 sorted_is_rule level a b c d e f = (sorted_right level a b c d e f).ranked
 
 pub of_one_class : (level : Bool) (a b c d e : ℕ) → Falling a b c d e → Only level (held (among (a ∷ b ∷ c ∷ d ∷ e ∷ [])))

@@ -8,7 +8,7 @@ use Rattle.grading.specs.Admission.{is_hand}
 use Rattle.grading.specs.Cards.{rank_of, suit_of, is_card, copies_of, is_single_card, different_cards, one_suit, tally}
 use Rattle.grading.specs.Five.{five_ranked, five_ranked_by, five_of}
 use Rattle.grading.specs.Laws.{ThreeOnly, FiveOnly}
-use Rattle.grading.specs.Ranks.{held, sequence}
+use Rattle.grading.specs.Ranks.{held, runs_of_three, runs_of_five, sequence}
 use Rattle.grading.specs.Steps.{three_sorted, five_sorted}
 use Rattle.grading.specs.Three.{three_hand, three_hand_by, three_of}
 use Rattle.grading.proofs.Each.{at_each}
@@ -89,7 +89,7 @@ module _ (cs s : List ℕ) (sh : IsPermutation cs s) (up : IsNonDecreasing s) wh
   unfolding three_hand
   three_sorted_is_hand hand =
       of_three.sorted_is_rule (one_suit cs) (get_or s 2 0 / 16) (get_or s 1 0 / 16) (get_or s 0 0 / 16) (three_falling hand)
-      ∙ (λ i. three_hand_by (sequence 3 (held (three_tally hand i)).ones) (held (three_tally hand i)) (one_suit cs))
+      ∙ (λ i. three_hand_by (sequence runs_of_three (held (three_tally hand i)).ones) (held (three_tally hand i)) (one_suit cs))
 
   -- the cards are of the class that the rule gives them, and of no other
   pub three_only : is_hand 3 cs ≡ true → ThreeOnly cs (three_hand cs).class
@@ -126,7 +126,7 @@ module _ (cs s : List ℕ) (sh : IsPermutation cs s) (up : IsNonDecreasing s) wh
   unfolding five_ranked
   five_sorted_is_ranked hand =
       OfFive.sorted_is_rule (one_suit cs) (get_or s 4 0 / 16) (get_or s 3 0 / 16) (get_or s 2 0 / 16) (get_or s 1 0 / 16) (get_or s 0 0 / 16) (five_falling hand)
-      ∙ (λ i. five_ranked_by (sequence 5 (held (five_tally hand i)).ones) (held (five_tally hand i)) (one_suit cs))
+      ∙ (λ i. five_ranked_by (sequence runs_of_five (held (five_tally hand i)).ones) (held (five_tally hand i)) (one_suit cs))
 
   -- the cards are of the class that the rule gives them, and of no other
   pub five_only : is_hand 5 cs ≡ true → FiveOnly cs (five_ranked cs).class

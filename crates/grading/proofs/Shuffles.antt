@@ -5,7 +5,7 @@ use Rattle.std.specs.List.Sorted.{IsPermutation}
 use Rattle.std.proofs.lemmas.List.Sorted.{sum_by-IsPermutation, length_permutation}
 use Rattle.grading.specs.Cards.{is_card, suit_of, rank_of, each, is_single_card, different_cards, all_of_suit, one_suit, tally, holds, highest_suit}
 use Rattle.grading.specs.Five.{five_ranked, five_ranked_by, suit_counts, deciding_suit, five_hand}
-use Rattle.grading.specs.Ranks.{held, sequence}
+use Rattle.grading.specs.Ranks.{held, runs_of_three, runs_of_five, sequence}
 use Rattle.grading.specs.Three.{three_hand, three_hand_by}
 
 module _ (cs ds : List ℕ) (sh : IsPermutation cs ds) where
@@ -37,11 +37,11 @@ module _ (cs ds : List ℕ) (sh : IsPermutation cs ds) where
 
   pub three_hand_shuffled : three_hand ds ≡ three_hand cs
   unfolding three_hand
-  three_hand_shuffled = λ i. three_hand_by (sequence 3 (held (tally_shuffled i)).ones) (held (tally_shuffled i)) (one_suit_shuffled i)
+  three_hand_shuffled = λ i. three_hand_by (sequence runs_of_three (held (tally_shuffled i)).ones) (held (tally_shuffled i)) (one_suit_shuffled i)
 
   five_ranked_shuffled : five_ranked ds ≡ five_ranked cs
   unfolding five_ranked
-  five_ranked_shuffled = λ i. five_ranked_by (sequence 5 (held (tally_shuffled i)).ones) (held (tally_shuffled i)) (one_suit_shuffled i)
+  five_ranked_shuffled = λ i. five_ranked_by (sequence runs_of_five (held (tally_shuffled i)).ones) (held (tally_shuffled i)) (one_suit_shuffled i)
 
   pub five_hand_shuffled : five_hand ds ≡ five_hand cs
   unfolding five_hand

@@ -1,6 +1,6 @@
 -- At all ranks of three cards, from the highest: the code's class and ranks are the rule's, and the cards are of that class and of no other.
 use Rattle.std.proofs.Common.{◌≡◌, ℕ, zero, suc, ◌+◌, ◌-◌, ◌<◌, ◌≤◌, Bool, true, false, T, eqb, [], ◌∷◌, Option, refl, subst, arith, lit<, eqb→eq}
-use Rattle.grading.specs.Ranks.{Held, held, sequence}
+use Rattle.grading.specs.Ranks.{Held, held, runs_of_three, sequence}
 use Rattle.grading.specs.Steps.{three_sorted}
 use Rattle.grading.specs.Three.{three_is, three_class_by, three_hand_at, three_hand_by}
 use Rattle.grading.specs.ThreeClasses.{three_below}
@@ -53,7 +53,7 @@ abbrev agrees_by : Bool → ℕ → ℕ → ℕ → Option ℕ → Held → Bool
 agrees_by level a b c head h = agrees_at level a b c head h (three_class_by head h level)
 
 abbrev agrees_of : Bool → ℕ → ℕ → ℕ → Held → Bool
-agrees_of level a b c h = agrees_by level a b c (sequence 3 h.ones) h
+agrees_of level a b c h = agrees_by level a b c (sequence runs_of_three h.ones) h
 
 abbrev agrees : Bool → ℕ → ℕ → ℕ → Bool
 agrees level a b c = agrees_of level a b c (held (among (a ∷ b ∷ c ∷ [])))
@@ -69,11 +69,11 @@ at_a level a = below (suc a) (at_b level a)
 
 -- the test, at the 455 choices of three ranks from the highest; cards of one suit apart, since the steps of a declaration are limited
 suited : T (below 13 (at_a true))
-unfolding held
+unfolding held sequence
 suited = tt
 
 mixed : T (below 13 (at_a false))
-unfolding held
+unfolding held sequence
 mixed = tt
 
 every : (level : Bool) → T (below 13 (at_a level))
@@ -99,10 +99,10 @@ at_ranks level a b c f =
 
 -- cards that hold these ranks are of the class that the rule gives them, and of no other
 abbrev pub Only : Bool → Held → Type 0
-Only level h = Alone (λ j. three_is j (sequence 3 h.ones) h level) (three_class_by (sequence 3 h.ones) h level)
+Only level h = Alone (λ j. three_is j (sequence runs_of_three h.ones) h level) (three_class_by (sequence runs_of_three h.ones) h level)
 
 -- the code's class and ranks are the rule's
-pub sorted_is_rule : (level : Bool) (a b c : ℕ) → Falling a b c → three_sorted a b c level ≡ three_hand_by (sequence 3 (held (among (a ∷ b ∷ c ∷ []))).ones) (held (among (a ∷ b ∷ c ∷ []))) level
+pub sorted_is_rule : (level : Bool) (a b c : ℕ) → Falling a b c → three_sorted a b c level ≡ three_hand_by (sequence runs_of_three (held (among (a ∷ b ∷ c ∷ []))).ones) (held (among (a ∷ b ∷ c ∷ []))) level
 sorted_is_rule level a b c f = from_same _ _ (both_left _ _ (at_ranks level a b c f))
 
 -- the cards are of the class that the rule gives them, and of no other

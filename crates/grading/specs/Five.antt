@@ -4,7 +4,7 @@ use Rattle.std.specs.Option.{unwrap_or, option_to_list}
 use Rattle.grading.specs.Cards.{one_suit, tally, highest_suit}
 use Rattle.grading.specs.FiveClasses.{five_below}
 use Rattle.grading.specs.Order.{by_parts}
-use Rattle.grading.specs.Ranks.{Held, held, sequence, padded}
+use Rattle.grading.specs.Ranks.{Held, held, runs_of_five, sequence, padded}
 use Rattle.grading.specs.declared.comparisons.Comparison.{Comparison}
 use Rattle.grading.specs.declared.five.FiveHand.{FiveHand}
 use Rattle.grading.specs.declared.five.Ranked.{Ranked}
@@ -78,7 +78,7 @@ five_ranked_by head h level = five_ranked_at (five_class_by head h level) head h
 
 -- the class and the ranks of five cards
 unfoldable pub five_ranked : List ℕ → Ranked
-five_ranked cs = five_ranked_by (sequence 5 (held (tally cs)).ones) (held (tally cs)) (one_suit cs)
+five_ranked cs = five_ranked_by (sequence runs_of_five (held (tally cs)).ones) (held (tally cs)) (one_suit cs)
 
 -- the suit that decides: the highest in which the cards hold the first of the ranks that they are compared by,
 -- so the suit of the highest card, of 5-4-3-2-A that of the 5, and the higher suit within the higher pair
@@ -91,7 +91,7 @@ five_hand cs = record { class = (five_ranked cs).class; ranks = (five_ranked cs)
 
 -- whether five cards are of a class
 unfoldable pub five_of : FiveClass → List ℕ → Bool
-five_of k cs = five_is k (sequence 5 (held (tally cs)).ones) (held (tally cs)) (one_suit cs)
+five_of k cs = five_is k (sequence runs_of_five (held (tally cs)).ones) (held (tally cs)) (one_suit cs)
 
 -- graded hands are compared by class, then by ranks from the first, and then by the suit that decides
 abbrev pub five_parts : FiveHand → List (List ℕ)

@@ -1,6 +1,8 @@
 -- Laws of grading: the order of the cards does not matter, each hand is of one class only, and a higher class beats a lower one.
-use Rattle.std.specs.Prelude.{◌≡◌, ℕ, ◌<◌, Bool, true, false, List, Ok, Err, Result, MatchResult}
+use Rattle.std.specs.Prelude.{◌≡◌, ℕ, ◌<◌, Bool, true, false, List, Some, None, Ok, Err, Option, Result, IfErr, MatchResult}
 use Rattle.std.specs.List.Sorted.{IsPermutation}
+use Rattle.refusals.specs.Refusals.{Answers}
+use Rattle.refusals.specs.declared.Cause.{Cause}
 use Rattle.refusals.specs.declared.Refusal.{Refusal}
 use Rattle.grading.specs.Admission.{is_hand}
 use Rattle.grading.specs.Five.{five_of}
@@ -39,6 +41,16 @@ OfOneClass Only n cs r = MatchResult r (λ k. (is_hand n cs ≡ true) × Only cs
 -- a hand of a higher class is higher
 abbrev pub HigherClassWins : {K : Type 0} → (K → ℕ) → (List ℕ → Result K Refusal) → List ℕ → List ℕ → Result Comparison Refusal → Type 0
 HigherClassWins {K} below class cs ds r = (j k : K) → class cs ≡ Ok j → class ds ≡ Ok k → below k < below j → r ≡ Ok Higher
+
+-- the cause that an answer names, if it is a refusal
+abbrev pub cause_named : {X : Type 0} → Result X Refusal → Option Cause
+cause_named (Ok x) = None
+cause_named (Err refusal) = Some refusal.cause
+
+-- of several causes the least is refused, and where none holds there is an answer; a refusal names no seat
+pub record LeastRefused {X : Type 0} (causes : List (Bool × Cause)) (r : Result X Refusal) : Type 0 where
+  pub answers : Answers causes (cause_named r)
+  pub no_seat : IfErr r (λ refusal. refusal.seat ≡ 0)
 
 -- an answer with the two hands swapped; a refusal stays
 abbrev pub swapped : Result Comparison Refusal → Result Comparison Refusal

@@ -1,5 +1,6 @@
--- How often a hand holds each rank, and ranks that are a sequence.
-use Rattle.std.specs.Prelude.{ℕ, zero, suc, ◌+◌, ◌-◌, cond, ◌&&◌, List, [], ◌∷◌, length, Some, None, Option, ◌==◌, slice_index}
+-- How often a hand holds each rank, and the runs of ranks that are sequences.
+use Rattle.std.specs.Prelude.{ℕ, zero, suc, ◌+◌, Bool, cond, ◌&&◌, List, [], ◌∷◌, length, None, Option, ◌==◌, nat_eq, slice_get}
+use Rattle.std.specs.List.{list_any, list_all}
 
 -- the ranks that a hand holds once, twice, three times, and four times or more, each list from the highest
 pub record Held : Type 0 where
@@ -25,16 +26,50 @@ held_of_first (suc n) t = noted (t (n + 2)) (n + 2) (held_of_first n t)
 unfoldable pub held : (ℕ → ℕ) → Held
 held t = held_of_first 13 t
 
--- the head of a sequence of n different ranks, told by the highest, the second and the lowest of them:
--- they follow one another, or they are an ace and the ranks from n down to 2, and then n is the head and the ace the lowest
-abbrev pub head_at : ℕ → ℕ → ℕ → ℕ → Option ℕ
-head_at n highest second lowest =
-    cond (highest == lowest + (n - 1)) (Some highest)
-    (cond (highest == 14 && second == n) (Some n) None)
+-- the twelve runs of three ranks, each from its head: A-K-Q, the highest, down to 4-3-2 and 3-2-A
+abbrev pub runs_of_three : List (List ℕ)
+runs_of_three =
+    (14 ∷ 13 ∷ 12 ∷ [])
+    ∷ (13 ∷ 12 ∷ 11 ∷ [])
+    ∷ (12 ∷ 11 ∷ 10 ∷ [])
+    ∷ (11 ∷ 10 ∷ 9 ∷ [])
+    ∷ (10 ∷ 9 ∷ 8 ∷ [])
+    ∷ (9 ∷ 8 ∷ 7 ∷ [])
+    ∷ (8 ∷ 7 ∷ 6 ∷ [])
+    ∷ (7 ∷ 6 ∷ 5 ∷ [])
+    ∷ (6 ∷ 5 ∷ 4 ∷ [])
+    ∷ (5 ∷ 4 ∷ 3 ∷ [])
+    ∷ (4 ∷ 3 ∷ 2 ∷ [])
+    ∷ (3 ∷ 2 ∷ 14 ∷ [])
+    ∷ []
 
--- the head of the sequence, if the n cards are of n different ranks, here from the highest, and these are one
-abbrev pub sequence : ℕ → List ℕ → Option ℕ
-sequence n rs = cond (length rs == n) (head_at n (slice_index rs 0) (slice_index rs 1) (slice_index rs (n - 1))) None
+-- the ten runs of five ranks, each from its head: A-K-Q-J-10, the highest, down to 6-5-4-3-2 and 5-4-3-2-A
+abbrev pub runs_of_five : List (List ℕ)
+runs_of_five =
+    (14 ∷ 13 ∷ 12 ∷ 11 ∷ 10 ∷ [])
+    ∷ (13 ∷ 12 ∷ 11 ∷ 10 ∷ 9 ∷ [])
+    ∷ (12 ∷ 11 ∷ 10 ∷ 9 ∷ 8 ∷ [])
+    ∷ (11 ∷ 10 ∷ 9 ∷ 8 ∷ 7 ∷ [])
+    ∷ (10 ∷ 9 ∷ 8 ∷ 7 ∷ 6 ∷ [])
+    ∷ (9 ∷ 8 ∷ 7 ∷ 6 ∷ 5 ∷ [])
+    ∷ (8 ∷ 7 ∷ 6 ∷ 5 ∷ 4 ∷ [])
+    ∷ (7 ∷ 6 ∷ 5 ∷ 4 ∷ 3 ∷ [])
+    ∷ (6 ∷ 5 ∷ 4 ∷ 3 ∷ 2 ∷ [])
+    ∷ (5 ∷ 4 ∷ 3 ∷ 2 ∷ 14 ∷ [])
+    ∷ []
+
+-- a rank is among these
+abbrev pub has_rank : List ℕ → ℕ → Bool
+has_rank rs r = list_any (λ x. nat_eq x r) rs
+
+-- these different ranks are those of a run, in whatever order: as many, and each rank of the run is among them
+abbrev pub are_of_run : List ℕ → List ℕ → Bool
+are_of_run rs run = length rs == length run && list_all (has_rank rs) run
+
+-- the head of the run that these different ranks are, if they are one of these runs
+unfoldable pub sequence : List (List ℕ) → List ℕ → Option ℕ
+sequence [] rs = None
+sequence (run ∷ runs) rs = cond (are_of_run rs run) (slice_get run 0) (sequence runs rs)
 
 -- n numbers, the missing ones 0
 abbrev pub padded : ℕ → List ℕ → List ℕ

@@ -1,12 +1,18 @@
 -- The class and the ranks that decide, by ranks from the highest, as the code finds them; that they are the rule's is proved.
-use Rattle.std.specs.Prelude.{ℕ, Bool, cond, ◌&&◌, ◌||◌, [], ◌∷◌, Some, None, Option, ◌==◌}
-use Rattle.grading.specs.Ranks.{head_at}
+use Rattle.std.specs.Prelude.{ℕ, ◌+◌, ◌-◌, Bool, cond, ◌&&◌, ◌||◌, [], ◌∷◌, Some, None, Option, ◌==◌}
 use Rattle.grading.specs.declared.five.Ranked.{Ranked}
 use Rattle.grading.specs.declared.five_classes.FiveClass.{FiveClass}
 use Rattle.grading.specs.declared.five_classes.FiveClass.TheVariants as OfFive
 use Rattle.grading.specs.declared.three.ThreeHand.{ThreeHand}
 use Rattle.grading.specs.declared.three_classes.ThreeClass.{ThreeClass}
 use Rattle.grading.specs.declared.three_classes.ThreeClass.TheVariants as of_three
+
+-- the head of a sequence of n different ranks, as the code finds it from the highest, the second and the lowest of them:
+-- they follow one another, or they are an ace and the ranks from n down to 2, and then n is the head and the ace the lowest
+abbrev pub head_at : ℕ → ℕ → ℕ → ℕ → Option ℕ
+head_at n highest second lowest =
+    cond (highest == lowest + (n - 1)) (Some highest)
+    (cond (highest == 14 && second == n) (Some n) None)
 
 -- a class with three ranks
 abbrev pub three_at : ThreeClass → ℕ → ℕ → ℕ → ThreeHand

@@ -3,7 +3,7 @@ use Rattle.std.specs.Prelude.{ℕ, Bool, cond, not, ◌&&◌, List, [], ◌∷�
 use Rattle.std.specs.Option.{option_to_list}
 use Rattle.grading.specs.Cards.{one_suit, tally}
 use Rattle.grading.specs.Order.{by_parts}
-use Rattle.grading.specs.Ranks.{Held, held, sequence, padded}
+use Rattle.grading.specs.Ranks.{Held, held, runs_of_three, sequence, padded}
 use Rattle.grading.specs.ThreeClasses.{three_below}
 use Rattle.grading.specs.declared.comparisons.Comparison.{Comparison}
 use Rattle.grading.specs.declared.three.ThreeHand.{ThreeHand}
@@ -47,11 +47,11 @@ three_hand_by head h level = three_hand_at (three_class_by head h level) head h
 
 -- the graded hand of three cards
 unfoldable pub three_hand : List ℕ → ThreeHand
-three_hand cs = three_hand_by (sequence 3 (held (tally cs)).ones) (held (tally cs)) (one_suit cs)
+three_hand cs = three_hand_by (sequence runs_of_three (held (tally cs)).ones) (held (tally cs)) (one_suit cs)
 
 -- whether three cards are of a class
 unfoldable pub three_of : ThreeClass → List ℕ → Bool
-three_of k cs = three_is k (sequence 3 (held (tally cs)).ones) (held (tally cs)) (one_suit cs)
+three_of k cs = three_is k (sequence runs_of_three (held (tally cs)).ones) (held (tally cs)) (one_suit cs)
 
 -- graded hands are compared by class, and then by ranks from the first; hands of one class and the same ranks are alike
 abbrev pub three_parts : ThreeHand → List (List ℕ)

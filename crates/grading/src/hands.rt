@@ -2,7 +2,8 @@
 ghost use Rattle.std.specs.Prelude.{◌≡◌, ℕ, ◌<◌, List, Result};
 ghost use Rattle.refusals.specs.declared.Refusal.{Refusal as Why};
 ghost use Rattle.grading.specs.Grading.{IsGraded, IsClassed, IsCompared};
-ghost use Rattle.grading.specs.Laws.{Only, InAnyOrder, InAnyOrders, OfOneClass, HigherClassWins, swapped as answer_swapped};
+ghost use Rattle.grading.specs.Admission.{hand_causes, hands_causes};
+ghost use Rattle.grading.specs.Laws.{LeastRefused, Only, InAnyOrder, InAnyOrders, OfOneClass, HigherClassWins, swapped as answer_swapped};
 ghost use Rattle.grading.specs.declared.comparisons.Comparison.{Comparison as Answer};
 ghost use Rattle.grading.specs.declared.comparisons.Comparison.TheVariants.{Higher};
 
@@ -38,7 +39,8 @@ pub trait Hand: Order + OfCards {
 
 // Grades cards; refuses a byte that is no card or stands there twice with 12, before any other number of cards with 13.
 pub fn grade<H: Hand>(cards: &[u8]) -> Result<H, Refusal>
-    ensures { result ≡ H.graded cards.now }
+    ensures graded { result ≡ H.graded cards.now }
+    ensures least { LeastRefused (hand_causes H.SIZE cards.now) result }
 {
     admit(H::SIZE, cards)?;
     Ok(H::of_cards(cards))
@@ -49,6 +51,7 @@ pub fn class<H: Hand>(cards: &[u8]) -> Result<H::Class, Refusal>
     ensures class { result ≡ H.classed cards.now }
     ensures any_order { InAnyOrder H.classed cards.now result }
     ensures one_class { OfOneClass (Only H.is_of) H.SIZE cards.now result }
+    ensures least { LeastRefused (hand_causes H.SIZE cards.now) result }
 {
     admit(H::SIZE, cards)?;
     Ok(H::of_cards(cards).class())
@@ -60,6 +63,7 @@ pub fn compare<H: Hand>(first: &[u8], second: &[u8]) -> Result<Comparison, Refus
     ensures any_order { InAnyOrders H.compared first.now second.now result }
     ensures swapped { H.compared second.now first.now ≡ answer_swapped result }
     ensures classes { HigherClassWins H.Class.lower H.classed first.now second.now result }
+    ensures least { LeastRefused (hands_causes H.SIZE first.now second.now) result }
 {
     admit_both(H::SIZE, first, second)?;
     Ok(H::of_cards(first).compare(&H::of_cards(second)))

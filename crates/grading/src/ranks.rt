@@ -1,7 +1,7 @@
 // Ranks in a row, and cards in order.
 ghost use Rattle.std.specs.Prelude.{◌≡◌, ◌+◌, ◌<◌, length};
 ghost use Rattle.std.specs.List.Sorted.{IsPermutation, IsNonDecreasing};
-ghost use Rattle.grading.specs.Ranks.{head_at};
+ghost use Rattle.grading.specs.Steps.{head_at};
 
 const ACE: u8 = 14;
 

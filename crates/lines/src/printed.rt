@@ -12,12 +12,12 @@ use std::fmt;
 // Room for the longest line, that of an entry; a longer one would only take more.
 const LINE_ROOM: usize = 80;
 
-// A line is what `{}` writes of a record, and a line feed.
+/// What is printed as a line: what `{}` writes of a record, and a line feed.
 pub trait Printed: fmt::Display {
     // the line that is printed, with its line feed
     ghost line_of: { Self → List ℕ };
 
-    // Prints the line to the end of a page; where memory is wanting the page stays as it was.
+    /// Prints the line to the end of a page. `Err` where an allocation failed: then the page stays as it was.
     fn print(&self, page: &mut Vec<u8>) -> Result<(), AllocError>
         ensures { page.new.items ≡ (if is_ok result then page.old.items ++ line_of self.now else page.old.items) }
     {
@@ -47,7 +47,7 @@ impl Printed for Closing {
     ghost displayed = { λ _. refl };
 }
 
-// Prints a line for each record, in order; where memory is wanting the first few are printed, each whole.
+/// Prints a line for each record, in order. `Err` where an allocation failed: then the first few lines are printed, each whole, and not all.
 pub fn print_all<R: Printed>(page: &mut Vec<u8>, records: &[R]) -> Result<(), AllocError>
     ensures lines { OnOk result (page.new.items ≡ page.old.items ++ lines_of R.line_of records.now) }
     ensures part { OnErr result (InPart R.line_of records.now page.old.items page.new.items) }

@@ -2,3 +2,5 @@ mod Cards
 mod Alike
 mod Fronts
 mod Parted
+mod Lower
+mod TwoWays

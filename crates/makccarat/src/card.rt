@@ -11,7 +11,7 @@ pub(crate) fn all_cards(cards: &[u8]) -> bool
     cards.iter().all(|&card| is_card(card))
 }
 
-// An ace counts 1, ranks up to 9 count as they are, tens and faces nothing.
+/// Returns the points of a card: an ace counts 1, ranks up to 9 count as they are, tens and faces nothing.
 pub fn points(card: u8) -> u8
     ensures worth { result ≡ points card }
     ensures digit { result ≤ 9 }

@@ -7,7 +7,7 @@ use crate::round::dealing;
 use crate::way::Way;
 use game::dealing::Misdeal;
 
-// What the two ways say of that deal, here in diamonds, which is the same in every suit.
+/// Returns whether that deal is lawful in the first way and in the second, here in diamonds; the contract says it for every suit.
 pub fn checked_deals() -> (Result<(), Misdeal>, Result<(), Misdeal>)
     ensures stands { CheckedDeals }
     ensures answers { result ≡ (Ok tt, Err WrongCount) }

@@ -23,7 +23,7 @@ pub mod posted;
 pub mod opening;
 
 // What a space returns, and what it may cost the bank.
-mod payment;
+pub mod payment;
 
 // The game that the table knows.
 pub mod telling;

@@ -20,7 +20,7 @@ fn conditions(way: Way, cap: u64, odds: [u16; 5]) -> bool
 }
 
 impl Makccarat {
-    // The game at these conditions; the first way takes no cap and no odds, the second the odds of a tie and of pairs.
+    /// Returns the game at these conditions: no cap, and in the first way no odds, in the second those of a tie and of pairs, each 1 to 1,000; refuses others with 18, which names no seat.
     pub fn open(way: Way, cap: u64, odds: [u16; 5]) -> Result<Makccarat, Refusal>
         ensures { Opened way cap odds result }
     {

@@ -1,6 +1,7 @@
 // What a stake on a space returns, and what a seat gets and may cost over its five spaces.
 ghost use Rattle.std.specs.Prelude.{◌≡◌, ◌^◌, ◌<◌, sum};
-ghost use Rattle.makccarat.specs.Payment.{side_return, tie_return, pair_return, space_returns, space_ceilings};
+ghost use Rattle.makccarat.specs.Laws.{CardsDecide, LowerBringsNothing};
+ghost use Rattle.makccarat.specs.Payment.{side_return, tie_return, pair_return, space_returns, space_ceilings, rules_of};
 
 use crate::posted::Makccarat;
 use crate::round::{pair, winner};
@@ -39,9 +40,11 @@ pub(crate) fn pair_return(held: bool, odds: u16, stake: u32) -> u64
 }
 
 impl Makccarat {
-    // A seat's return, space by space.
-    pub(crate) fn seat_return(&self, stakes: &[u32; 5], cards: &[u8]) -> u64
-        ensures { result ≡ sum (space_returns self.now stakes.now cards.now) }
+    /// Returns what a seat with these stakes gets back, in chips: what its five spaces return, added.
+    pub fn seat_return(&self, stakes: &[u32; 5], cards: &[u8]) -> u64
+        ensures amount { result ≡ sum (space_returns self.now stakes.now cards.now) }
+        ensures anywhere { CardsDecide (rules_of self.now) stakes.now cards.now result }
+        ensures lower { LowerBringsNothing self.now.way (rules_of self.now) }
     {
         let [player, banker, tie, player_pair, banker_pair] = *stakes;
         let winner = winner(self.way, cards);

@@ -4,6 +4,7 @@ ghost use Rattle.makccarat.specs.Ways.{lawful_odds};
 
 use crate::way::Way;
 
+/// A game of Makccarat: its way, and its odds of a tie and of pairs.
 #[derive(Clone, Copy)]
 pub struct Makccarat {
     pub(crate) way: Way,

@@ -1,7 +1,7 @@
 // A round, from the cards in the order they came: who adds, how many cards are called for, the final totals, who wins.
 // The game has the way and the deal the cards, and both sides are asked about: a struct would be made anew for each question.
 ghost use Rattle.std.specs.Prelude.{◌≡◌, [], ◌∷◌, ◌++◌, slice_index};
-ghost use Rattle.makccarat.specs.Laws.{Decided};
+ghost use Rattle.makccarat.specs.Laws.{Decided, HigherWins, WaysCompared};
 ghost use Rattle.makccarat.specs.Round.{total, first_two, first_total, adder, answered, called, final_total, higher, winner, pair, dealing};
 
 use crate::card::{all_cards, points};
@@ -69,9 +69,11 @@ fn answered(way: Way, cards: &[u8], adder: Side) -> bool
     before == across || after > across || (after == across && way.adds_when_level())
 }
 
-// How many cards the round calls for.
+/// Returns how many cards the round calls for, four to six; the two ways differ only where the side that added equals the other by it.
+#[tactic(auto, using(crate::proofs::TwoWays::ways_compared))]
 pub fn called(way: Way, cards: &[u8]) -> usize
-    ensures { result ≡ called way cards.now }
+    ensures number { result ≡ called way cards.now }
+    ensures ways { WaysCompared cards.now }
 {
     match adder(cards) {
         None => 4,
@@ -79,7 +81,7 @@ pub fn called(way: Way, cards: &[u8]) -> usize
     }
 }
 
-// A side's total over all its cards.
+/// Returns a side's total over all its cards: the last digit of their points.
 pub fn final_total(way: Way, cards: &[u8], side: Side) -> u8
     ensures { result ≡ final_total way cards.now side }
 {
@@ -101,10 +103,11 @@ fn higher(player: u8, banker: u8) -> Option<Side>
     }
 }
 
-// Who wins, which the final totals alone decide; none at a tie.
+/// Returns the side that wins, which is the one with the higher final total; `None` at a tie.
 pub fn winner(way: Way, cards: &[u8]) -> Option<Side>
     ensures told { result ≡ winner way cards.now }
     ensures decided { Decided way cards.now result }
+    ensures higher { HigherWins way cards.now result }
 {
     higher(
         final_total(way, cards, Side::Player),
@@ -112,7 +115,7 @@ pub fn winner(way: Way, cards: &[u8]) -> Option<Side>
     )
 }
 
-// Whether a side's first two cards are of one rank.
+/// Returns whether a side's first two cards are of one rank.
 pub fn pair(cards: &[u8], side: Side) -> bool
     ensures { result ≡ pair cards.now side }
 {
@@ -120,7 +123,7 @@ pub fn pair(cards: &[u8], side: Side) -> bool
     rank_of(one) == rank_of(two)
 }
 
-// Whether the cards are a lawful deal.
+/// Returns `Ok` where the cards are a lawful deal, which is cards alone and as many as are called for; refuses 12 before 13.
 pub fn dealing(way: Way, cards: &[u8]) -> Result<(), Misdeal>
     ensures { result ≡ dealing way cards.now }
 {

@@ -2,6 +2,7 @@
 ghost use Rattle.std.specs.Prelude.{◌≡◌};
 ghost use Rattle.makccarat.specs.Sides.{other};
 
+/// A side of a round.
 #[derive(Clone, Copy, PartialEq, Eq, Debug)]
 pub enum Side {
     Player,

@@ -2,6 +2,7 @@
 ghost use Rattle.std.specs.Prelude.{◌≡◌};
 ghost use Rattle.makccarat.specs.Ways.{adds_when_level};
 
+/// A way of adding a card.
 #[derive(Clone, Copy, PartialEq, Eq, Debug)]
 pub enum Way {
     First,

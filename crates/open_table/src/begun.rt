@@ -10,7 +10,7 @@ use run::ended::Ended;
 use run::rolls::Rolls;
 use sheet::reader::Reader;
 
-// A sheet that was begun: the table that it opened, and how its first run ended.
+/// A sheet that was begun: the table that it opened, and how its first run ended.
 #[derive(Drop)]
 pub struct Begun {
     pub table: OpenTable,

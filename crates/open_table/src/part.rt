@@ -7,6 +7,7 @@ ghost use Rattle.open_table.specs.Sums.{in_part};
 use books::seat::Seat;
 use ledger::sums::SignedAmount;
 
+/// Which of a seat's chips: those in its rack, those on its spaces with the raise, or both.
 #[derive(Clone, Copy, PartialEq, Eq, Debug)]
 pub enum Part {
     Rack,
@@ -14,7 +15,7 @@ pub enum Part {
     Chips,
 }
 
-// So many chips of a seat, as an amount that the one sum takes.
+/// So many chips of a seat, as an amount that the one sum takes.
 #[derive(Clone, Copy, PartialEq, Eq, Debug)]
 pub struct View {
     pub amount: i64,

@@ -9,6 +9,8 @@ pub mod FortuneOpening
 pub mod Stud
 pub mod StudOpening
 pub mod Laws
+pub mod FortuneLaws
+pub mod StudLaws
 pub mod FortuneFacts
 pub mod Bounds
 pub mod StudFacts

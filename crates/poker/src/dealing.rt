@@ -1,15 +1,16 @@
 // Dealing hands of one size: to each staking seat in seat order, and then to the bank.
-ghost use Rattle.std.specs.Prelude.{◌≡◌, ◌≤◌, length};
+ghost use Rattle.std.specs.Prelude.{◌≡◌, ◌≤◌, length, OnOk};
 ghost use Rattle.game.specs.Rules.{deal_of};
 ghost use Rattle.poker.specs.Dealing.{cards_of, stakers, stakers_before, hand_at, seat_hand, bank_hand, dealing};
+ghost use Rattle.poker.specs.Laws.{IsDealtOut};
 
 use game::deal::Deal;
 use game::dealing::{Misdeal, judge};
 use grading::cards::are_different_cards;
 
-// How many cards each hand of a game has.
+/// How many cards each hand of a game has.
 #[derive(Clone, Copy)]
-pub(crate) enum HandSize {
+pub enum HandSize {
     Three,
     Five,
 }
@@ -51,23 +52,25 @@ impl HandSize {
         rest.get(..self.cards()).unwrap_or(rest)
     }
 
-    // The hand of a seat.
-    pub(crate) fn seat_hand<'a>(self, seat: usize, deal: &Deal<'a>) -> &'a [u8]
+    /// Returns the hand of a seat, counted from 0: the cards behind the hands of the staking seats before it.
+    pub fn seat_hand<'a>(self, seat: usize, deal: &Deal<'a>) -> &'a [u8]
         ensures { result.now ≡ seat_hand (cards_of self) seat (deal_of deal.now) }
     {
         self.hand_at(stakers_before(seat, &deal.staking), deal.cards)
     }
 
-    // The hand of the bank.
-    pub(crate) fn bank_hand<'a>(self, deal: &Deal<'a>) -> &'a [u8]
+    /// Returns the hand of the bank: the cards behind the hands of all staking seats.
+    pub fn bank_hand<'a>(self, deal: &Deal<'a>) -> &'a [u8]
         ensures { result.now ≡ bank_hand (cards_of self) (deal_of deal.now) }
     {
         self.hand_at(stakers(&deal.staking), deal.cards)
     }
 
-    // Whether the cards are a lawful deal.
-    pub(crate) fn dealing(self, deal: &Deal<'_>) -> Result<(), Misdeal>
-        ensures { result ≡ dealing (cards_of self) (deal_of deal.now) }
+    /// Returns `Ok` where the cards are a lawful deal: different cards, a hand for each staking seat in seat order, and then one for the bank.
+    #[tactic(auto, using(crate::proofs::DealtOut::hands_if_lawful))]
+    pub fn dealing(self, deal: &Deal<'_>) -> Result<(), Misdeal>
+        ensures judged { result ≡ dealing (cards_of self) (deal_of deal.now) }
+        ensures hands { OnOk result (IsDealtOut (cards_of self) (deal_of deal.now)) }
     {
         let hands = stakers(&deal.staking) + 1;
         judge(

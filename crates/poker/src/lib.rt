@@ -2,7 +2,7 @@
 #![tactic(auto)]
 
 // Dealing hands to the staking seats and the bank.
-mod dealing;
+pub mod dealing;
 
 // Whether cards hold a rank.
 mod ranks;

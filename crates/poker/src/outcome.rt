@@ -5,7 +5,7 @@ ghost use Rattle.poker.specs.Outcome.{outcome, ante_return, raise_return};
 use grading::Comparison;
 use refusals::Refusal;
 
-// The bank did not open, or it opened and the seat won, tied or lost.
+/// How a round ends for a raised seat: the bank did not open, or it opened and the seat won, tied or lost.
 #[derive(Clone, Copy, PartialEq, Eq, Debug)]
 pub enum Outcome {
     Unopened,

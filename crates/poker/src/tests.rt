@@ -1,4 +1,5 @@
 // Rounds worked by hand, Fortune at odds of 40, 25, 5, 4 and 1.
+use crate::dealing::HandSize;
 use crate::fortune::posted::Fortune;
 use crate::stud::posted::Stud;
 use game::choice::Choice;
@@ -23,6 +24,8 @@ fn each_seat_plays_its_own_hand(rt: HostRuntime) -> Result<(), Fail> {
         cards: &cards,
     };
     assert_eq!(rt; game.deals(&deal), Ok(()));
+    assert_eq!(rt; HandSize::Three.seat_hand(4, &deal), &cards[3..6]);
+    assert_eq!(rt; HandSize::Three.bank_hand(&deal), &cards[6..]);
     let stakes = [100, 0, 10, 0, 0];
     assert_eq!(rt;
         game.returns(1, &stakes, Choice::Raised, &deal),

@@ -32,7 +32,7 @@ use Rattle.run.specs.Runs.{State, no_room, performed, unread, runs, run_of, to_c
 use Rattle.run.specs.Steps.{Moved, Stepped}
 use Rattle.run.specs.StopRule.{refusals_in, entries_in, HasRoom, EndsAt, StopRule}
 use Rattle.run.proofs.Enough.{verdict_enough}
-use Rattle.run.proofs.Stopping.{room_here, room_lacking, refusals_more, entries_more, ends_at_end, ends_lacking, ends_unread}
+use Rattle.run.proofs.Stopping.{room_here, room_command, room_fault, room_lacking, refusals_more, entries_more, ends_at_end, ends_lacking, ends_unread}
 
 -- what is free once records were written
 free_then : {X : Type 0} (r r' : Roll X) (xs : List X) → Written r r' xs → free r - length xs ≡ free r'
@@ -103,11 +103,12 @@ module _ (R : Rules) (sheet : List ℕ) (short : length sheet ≤ longest) (b : 
       let c = m.call in
       let v = m.answer in
       let did = m.performs.did in
+      let room = room_command sheet short p' (free l') (free n') m.goes_on c (sym m.reads) in
       let es : List Entry = either v (writes R b' c) [] in
       let ns : List Note = noted p' v in
       let x : Turn = turn_of R b' c (free l') v in
       let here : items_of sheet p' ≡ command p' c ∷ items_of sheet (p' + width_of c) = items_here p' _ m.reads in
-      let enough : most_entries ≤ free l' = ltb-false (free l') most_entries (or_parts (ltb (free l') most_entries) (eqb (free n') 0) m.room).0 in
+      let enough : most_entries ≤ free l' = ltb-false (free l') most_entries (or_parts (ltb (free l') most_entries) (eqb (free n') 0) room).0 in
       let seven : v ≡ verdict R b' c most_entries = did.answer ∙ verdict_enough R b' c (free l') enough in
       let on : ℕ → ℕ → Books → ℕ → State × Ended = λ lf nf bb pp. runs R lf nf (state bb (h.entries ++ es) (h.notes ++ ns) (h.turns ++ x ∷ []) pp) (items_of sheet pp) in
       let after_v : Result (Unit {0}) Refusal → Told = λ y. and_then (either y (writes R b' c) []) (noted p' y) (told R (either y (after R b' c) b') (items_of sheet (p' + width_of c))) in
@@ -119,7 +120,7 @@ module _ (R : Rules) (sheet : List ℕ) (short : length sheet ≤ longest) (b : 
             ∙ ap (λ k. on (free l' - length es) k b'' p'') (sym (free_then n' n'' ns m.notes))
             ∙ ap (λ k. on (free l' - length es) (free n' - length ns) k p'') did.books
             ∙ ap (λ k. on (free l' - length es) (free n' - length ns) (either v (after R b' c) b') k) m.place
-            ∙ sym (unrolled (state b' h.entries h.notes h.turns p') (free l') (free n') p' c v (items_of sheet (p' + width_of c)) did.answer m.room)
+            ∙ sym (unrolled (state b' h.entries h.notes h.turns p') (free l') (free n') p' c v (items_of sheet (p' + width_of c)) did.answer room)
             ∙ ap (runs R (free l') (free n') (state b' h.entries h.notes h.turns p')) (sym here)
             ∙ h.same;
         wrote = written_then l l' l'' h.entries es h.wrote m.performs.ledger;
@@ -136,7 +137,7 @@ module _ (R : Rules) (sheet : List ℕ) (short : length sheet ≤ longest) (b : 
             ∙ ap (λ k. and_then h.entries h.notes (and_then es ns (told R b'' (items_of sheet k)))) (sym m.place)
             ∙ then_then h.entries es h.notes ns (told R b'' (items_of sheet p''));
         handed = each_more (λ before u. u.free ≡ free l - length (entries_in before)) h.turns x (sym (free_then l l' h.entries h.wrote) ∙ ap (λ k. free l - length k) h.by_turns) h.handed;
-        room = each_more (λ before u. HasRoom u.free (free n - refusals_in before)) h.turns x (subst (HasRoom (free l')) h.left (room_here (free l') (free n') m.room)) h.room;
+        room = each_more (λ before u. HasRoom u.free (free n - refusals_in before)) h.turns x (subst (HasRoom (free l')) h.left (room_here (free l') (free n') room)) h.room;
         by_turns = ap (λ k. k ++ es) h.by_turns ∙ sym (entries_more h.turns x);
         left = omega (arith, free_then n' n'' ns m.notes, h.left, refusals_more h.turns R b' c (free l') p' v);
         sound = m.performs.sound;
@@ -225,15 +226,16 @@ module _ (R : Rules) (sheet : List ℕ) (short : length sheet ≤ longest) (b : 
       let us = h.turns in
       let note : List Note = note_of p' e ∷ [] in
       let st = state b' es ns us p' in
+      let room = room_fault sheet short p' (free l') (free n') m.goes_on e (sym m.reads) in
       let here : items_of sheet p' ≡ fault p' e ∷ [] = items_here p' _ m.reads in
       finished es (ns ++ note) us (Unreadable e) b'' p'' l'' n''
-      (sym h.same ∙ ap (runs R (free l') (free n') st) here ∙ ap (λ t. cond t (st, NoRoom) (unread st p' e, Unreadable e)) m.room
+      (sym h.same ∙ ap (runs R (free l') (free n') st) here ∙ ap (λ t. cond t (st, NoRoom) (unread st p' e, Unreadable e)) room
       ∙ ap (λ k. (state k es (ns ++ note) us p', Unreadable e)) (sym m.books) ∙ ap (λ k. (state b'' es (ns ++ note) us k, Unreadable e)) (sym m.place))
       (subst (Written l l'') (append-nil es) (written_then l l' l'' es [] h.wrote m.ledger))
       (written_then n n' n'' ns note h.noting m.notes)
       (h.once ∙ ap (λ k. map (λ u. u.call) us ++ calls_in (items_of sheet k)) (sym m.place))
       (h.parts ∙ ap (λ is. and_then es ns (told R b' is)) here ∙ then_then es [] ns note (quiet b') ∙ ap (λ x. and_then x (ns ++ note) (quiet b')) (append-nil es) ∙ ap (λ k. and_then es (ns ++ note) (quiet k)) (sym m.books))
-      h.by_turns (stops_so (Unreadable e) b' p' p'' l' n' h m.place (ends_unread sheet short p' (free l') (free n') e m.reads (room_here (free l') (free n') m.room)))
+      h.by_turns (stops_so (Unreadable e) b' p' p'' l' n' h m.place (ends_unread sheet short p' (free l') (free n') e m.reads (room_here (free l') (free n') room)))
       (subst (Sound R) (sym m.books) h.sound)
       (λ o vs r. subst (Reached R o (vs ++ us)) (sym m.books) (h.leads o vs r))
 

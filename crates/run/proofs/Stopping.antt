@@ -1,5 +1,5 @@
 -- Where a run ends, by the stop rule, and that each call before was performed with room.
-use Rattle.std.proofs.Common.{◌≡◌, ℕ, ◌+◌, ◌<◌, ◌≤◌, ◌&&◌, Bool, true, false, cond, eqb, ltb, List, [], ◌∷◌, ◌++◌, length, Some, None, Ok, Err, Option, Result, sym, refl, ap, ◌∙◌, ⊎_elim, arith}
+use Rattle.std.proofs.Common.{◌≡◌, ℕ, ◌+◌, ◌<◌, ◌≤◌, ◌&&◌, true, false, cond, eqb, ltb, List, [], ◌∷◌, ◌++◌, length, Some, None, Ok, Err, Option, Result, sym, refl, ap, ◌∙◌, ⊎_elim, arith}
 use Rattle.std.proofs.lemmas.List.{append-nil}
 use Rattle.std.proofs.lemmas.Grind.{flat_map-append}
 use Rattle.std.proofs.lemmas.List.Sums.{sum_by_push}
@@ -31,11 +31,11 @@ not_both : (entries notes : ℕ) → HasRoom entries notes → LacksRoom entries
 not_both entries notes h = λ l. ⊎_elim (λ (x : entries < most_entries). absurd (omega (arith, h.seven))) (λ (x : notes ≡ 0). absurd (omega (arith, h.one))) l
 
 -- where the run does not stop for want of room, there is room for what is read
-module _ (sheet : List ℕ) (short : length sheet ≤ longest) (p entries notes : ℕ) (stops : Bool) (is : stops ≡ (ltb p (length sheet) && no_room entries notes)) (on : stops ≡ false) where
-  pub room_read : (r : Result (Option Call) Refusal) → r ≡ read_at sheet p → (r ≡ Ok None → ⊥) → no_room entries notes ≡ false
+module _ (sheet : List ℕ) (short : length sheet ≤ longest) (p entries notes : ℕ) (on : (ltb p (length sheet) && no_room entries notes) ≡ false) where
+  room_read : (r : Result (Option Call) Refusal) → r ≡ read_at sheet p → (r ≡ Ok None → ⊥) → no_room entries notes ≡ false
   room_read r reads some =
       ⊎_elim
-      (λ (lt : p < length sheet). sym (ap (λ t. t && no_room entries notes) (lt-ltb p (length sheet) lt)) ∙ sym is ∙ on)
+      (λ (lt : p < length sheet). sym (ap (λ t. t && no_room entries notes) (lt-ltb p (length sheet) lt)) ∙ on)
       (λ (past : length sheet ≤ p). absurd (some (reads ∙ read_past sheet short p past)))
       (cases_lt p (length sheet))
 

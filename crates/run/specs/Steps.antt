@@ -1,5 +1,5 @@
 -- One step of a run, as the code goes; public contracts say it of the whole run.
-use Rattle.std.specs.Prelude.{◌≡◌, ℕ, ◌+◌, ◌<◌, true, false, List, [], ◌∷◌, length, Some, None, Ok, Err, Option, Result}
+use Rattle.std.specs.Prelude.{◌≡◌, ℕ, ◌+◌, ◌<◌, true, false, ◌&&◌, List, [], ◌∷◌, length, Some, None, Ok, Err, Option, Result, nat_lt}
 use Rattle.refusals.specs.declared.Refusal.{Refusal}
 use Rattle.commands.specs.Calls.{Call}
 use Rattle.game.specs.Rules.{Rules}
@@ -22,7 +22,7 @@ module _ (R : Rules) (sheet : List ℕ) (b : Books) (p : ℕ) (l : Roll Entry) (
     pub call : Call
     pub answer : Result (Unit {0}) Refusal
     pub reads : read_at sheet p ≡ Ok (Some call)
-    pub room : no_room (free l) (free n) ≡ false
+    pub goes_on : (nat_lt p (length sheet) && no_room (free l) (free n)) ≡ false
     pub performs : Performed R b l call answer b' l'
     pub place : p' ≡ p + width_of call
     pub notes : Written n n' (noted p answer)
@@ -30,7 +30,7 @@ module _ (R : Rules) (sheet : List ℕ) (b : Books) (p : ℕ) (l : Roll Entry) (
   -- no command could be read at the place, by this refusal
   pub record Stuck (refusal : Refusal) (b' : Books) (p' : ℕ) (l' : Roll Entry) (n' : Roll Note) : Type 0 where
     pub reads : read_at sheet p ≡ Err refusal
-    pub room : no_room (free l) (free n) ≡ false
+    pub goes_on : (nat_lt p (length sheet) && no_room (free l) (free n)) ≡ false
     pub books : b' ≡ b
     pub place : p' ≡ p
     pub ledger : Written l l' []

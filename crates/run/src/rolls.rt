@@ -12,6 +12,7 @@ use refusals::Refusal;
 // A settlement writes at most so many entries: one a seat.
 const MOST_ENTRIES: usize = 7;
 
+/// The ledger, and the notes of what was refused.
 // Reader and rolls are not one struct: the first command reads before anything is kept, and printing keeps nothing of what is read.
 #[derive(Drop)]
 pub struct Rolls<'a> {

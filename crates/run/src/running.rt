@@ -65,7 +65,10 @@ fn go_on<G: Game>(table: &mut Table<G>, reader: &mut Reader<'_>, rolls: &mut Rol
     }
 }
 
-// Runs a sheet on a table from a place on, and answers how the run ended.
+/// Runs a sheet on a table from the reading place on, and returns how the run ended.
+///
+/// Each command is performed once, in order; what is refused leaves a note. It stops early exactly where bytes remain and fewer than seven places of the ledger or none for a note are free.
+/// Refused with 22, seat 0, where the sheet has more than 65,536 bytes: then table, rolls and reading place stay as they were.
 pub fn run<G: Game>(
     table: &mut Table<G>,
     reader: &mut Reader<'_>,

@@ -1,13 +1,16 @@
-// Settles the sheet on standard input and prints its ledger.
+//! Settles the sheet on standard input and writes its ledger to standard output.
 #![tactic(auto)]
 
-use std::io;
-use std::io::{BufWriter, Write};
-use terminal::streams::{read_sheet, settle_to};
+use anyhow::Result;
+use byte_streams::sink::ToWriter;
+use byte_streams::source::FromReader;
+use terminal::streams::settle_stream;
 
-fn main(rt: HostRuntime) -> io::Result<()> {
-    let sheet = read_sheet(rt.alloc(), rt.stdin())?;
-    let mut out = BufWriter::new(rt.alloc(), rt.stdout())?;
-    settle_to(rt.alloc(), &mut out, &sheet)?;
-    out.flush()
+fn main(rt: HostRuntime) -> Result<()> {
+    settle_stream(
+        rt.alloc(),
+        &mut FromReader(rt.stdin()),
+        &mut ToWriter(rt.stdout()),
+    )?;
+    Ok(())
 }

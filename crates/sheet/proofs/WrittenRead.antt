@@ -1,5 +1,5 @@
 -- What was written reads back as the same call.
-use Rattle.std.proofs.Common.{◌≡◌, ℕ, zero, suc, ◌+◌, ◌-◌, ◌≤◌, true, false, ◌&&◌, eqb, ltb, List, [], ◌∷◌, ◌++◌, length, get_or, take, drop, replicate, Some, None, Ok, Err, Option, Result, sym, refl, ap, ◌∙◌, subst, arith, length-append, ltb-false}
+use Rattle.std.proofs.Common.{◌≡◌, ℕ, zero, suc, ◌+◌, ◌-◌, ◌≤◌, true, false, ◌&&◌, eqb, ltb, List, [], ◌∷◌, ◌++◌, length, get_or, take, drop, replicate, Some, None, Ok, Err, Option, Result, sym, refl, ap, ◌∙◌, subst, arith, length-append, append-nil, drop_of_length-le, ltb-false}
 use lib.ListN.{length-replicate}
 use Rattle.std.proofs.lemmas.List.{take_at, take_rest, drop_at, drop-append-le, get_or_append_left, length-take-le}
 use Rattle.std.proofs.lemmas.Bool.{le-ltb}
@@ -11,7 +11,7 @@ use Rattle.commands.specs.declared.Conditions.{Conditions}
 use Rattle.commands.specs.Calls.{Call, Open, Buy, Cash, Fill, Draw, Bet, Deal, Raise, Leave, Settle, Void}
 use Rattle.sheet.specs.Format.{bytes_of, width, width_of, ConditionsFit, FitsFormat}
 use Rattle.sheet.specs.Reading.{row, all_zero, bad_deal, call_in, longest, means, read_at, some_call, unless}
-use Rattle.sheet.specs.Writing.{too_many, write_faults, write_at, with_bytes, buffer_after, ReadsBack}
+use Rattle.sheet.specs.Writing.{too_many, write_faults, write_at, with_bytes, buffer_after, ReadsBack, ReadsAlone}
 use Rattle.sheet.proofs.Items.{width_some}
 use Rattle.sheet.proofs.Places.{read_of}
 use Rattle.sheet.proofs.Numbers.{number_in_bytes}
@@ -110,6 +110,66 @@ reads_back c f out out' at (Err e) answer buffer = tt
 reads_back c f out out' at (Ok place) answer buffer = λ short.
     ap (λ o. read_at o at) buffer
     ∙ written_reads c f out at (ok_none (first_cause (write_faults out at c)) answer) (subst (λ o. length o ≤ longest) buffer short)
+  where
+    ok_none : (o : Option Cause) → Ok place ≡ unless o (at + width_of c) → o ≡ None
+    ok_none None e = refl
+    ok_none (Some x) e = cc
+
+-- a call takes as many bytes as its first byte says
+length_bytes : (c : Call) → too_many c ≡ false → length (bytes_of c) ≡ width_of c
+length_bytes (Open conditions tray) few = refl
+length_bytes (Buy seat n) few = refl
+length_bytes (Cash seat n) few = refl
+length_bytes (Fill n) few = refl
+length_bytes (Draw n) few = refl
+length_bytes (Bet seat space n) few = refl
+length_bytes (Deal cards) few = omega (arith, ltb-false 40 (length cards) few, length-append cards (replicate (40 - length cards) 0), length-replicate {A = ℕ} (40 - length cards) 0)
+length_bytes (Raise seat) few = refl
+length_bytes (Leave seat) few = refl
+length_bytes Settle few = refl
+length_bytes Void few = refl
+
+-- no command has more bytes than a sheet
+width_small : (c : Call) → width_of c ≤ longest
+width_small (Open conditions tray) = omega arith
+width_small (Buy seat n) = omega arith
+width_small (Cash seat n) = omega arith
+width_small (Fill n) = omega arith
+width_small (Draw n) = omega arith
+width_small (Bet seat space n) = omega arith
+width_small (Deal cards) = omega arith
+width_small (Raise seat) = omega arith
+width_small (Leave seat) = omega arith
+width_small Settle = omega arith
+width_small Void = omega arith
+
+-- the bytes of a call, read as a sheet of their own
+bytes_read : (c : Call) → FitsFormat c → too_many c ≡ false → read_at (bytes_of c) 0 ≡ Ok (Some c)
+bytes_read c f few =
+    let bs = bytes_of c in
+    let long = length_bytes c few in
+    let none : first_cause (write_faults bs 0 c) ≡ None = rw (le-ltb (length bs) (0 + width_of c) (omega (arith, long)), few) refl in
+    let whole : with_bytes bs 0 bs ≡ bs = ap (λ t. bs ++ t) (drop_of_length-le bs {i = 0 + length bs} (omega arith)) ∙ append-nil bs in
+    subst (λ s. read_at s 0 ≡ Ok (Some c)) whole (written_reads c f bs 0 none (omega (arith, ap length whole, long, width_small c)))
+
+-- the bytes that were put at a place of a buffer, read as a sheet of their own
+written_reads_alone : (c : Call) → FitsFormat c → (out : List ℕ) (at : ℕ) → first_cause (write_faults out at c) ≡ None
+    → read_at (take (width_of c) (drop at (with_bytes out at (bytes_of c)))) 0 ≡ Ok (Some c)
+written_reads_alone c f out at none =
+    let bs = bytes_of c in
+    let held = none_holds (write_faults out at c) none in
+    let few : too_many c ≡ false = held.1.0 in
+    let fits : at + width_of c ≤ length out = ltb-false (length out) (at + width_of c) held.0 in
+    let rest = drop (at + length bs) out in
+    let behind : drop at (with_bytes out at bs) ≡ bs ++ rest = drop_at (take at out) (bs ++ rest) at (length-take-le at out (omega arith)) in
+    let alone : take (width_of c) (drop at (with_bytes out at bs)) ≡ bs = ap (take (width_of c)) behind ∙ take_at bs rest (width_of c) (length_bytes c few) in
+    ap (λ s. read_at s 0) alone ∙ bytes_read c f few
+
+-- the same of an answer of the writer
+pub reads_alone : (c : Call) → FitsFormat c → (out out' : List ℕ) (at : ℕ) (r : Result ℕ Refusal) → r ≡ write_at out at c → out' ≡ buffer_after r out at (bytes_of c) → ReadsAlone r out' at c
+reads_alone c f out out' at (Err e) answer buffer = tt
+reads_alone c f out out' at (Ok place) answer buffer =
+    ap (λ o. read_at (take (width_of c) (drop at o)) 0) buffer ∙ written_reads_alone c f out at (ok_none (first_cause (write_faults out at c)) answer)
   where
     ok_none : (o : Option Cause) → Ok place ≡ unless o (at + width_of c) → o ≡ None
     ok_none None e = refl

@@ -108,6 +108,17 @@ read_at sheet p =
     cond (nat_lt longest (length sheet)) (Err (refused SheetTooLong 0))
     (cond (nat_le (length sheet) p) (Ok None) (some_call (means (slice_index sheet p) (drop (p + 1) sheet))))
 
+-- what can be wrong with a sheet at a place, in the order in which causes go first: the sheet is too long; or, before its end, what is wrong with the bytes there
+abbrev pub sheet_faults : List ℕ → ℕ → List (Bool × Cause)
+sheet_faults sheet p =
+    (nat_lt longest (length sheet), SheetTooLong)
+    ∷ cond (nat_le (length sheet) p) [] (faults (slice_index sheet p) (drop (p + 1) sheet))
+
+-- the cause of a refusal, where there is one
+abbrev pub cause_of : {A : Type 0} → Result A Refusal → Option Cause
+cause_of (Ok a) = None
+cause_of (Err e) = Some e.cause
+
 -- an answer of the reader, with calls for commands
 abbrev pub calls : Result (Option Command) Refusal → Result (Option Call) Refusal
 calls (Ok None) = Ok None

@@ -1,5 +1,5 @@
 -- What writing a command at a place of a buffer answers and leaves.
-use Rattle.std.specs.Prelude.{◌≡◌, ℕ, ◌+◌, ◌≤◌, Bool, false, List, [], ◌∷◌, ◌++◌, length, take, drop, Some, Ok, Err, Result, nat_lt}
+use Rattle.std.specs.Prelude.{◌≡◌, ℕ, ◌+◌, ◌≤◌, Bool, false, List, [], ◌∷◌, ◌++◌, length, take, drop, Some, None, Ok, Err, Option, Result, nat_lt}
 use Rattle.std.specs.Borrow.{Bor}
 use Rattle.std.specs.List.{flat_map}
 use Rattle.refusals.specs.declared.Cause.{Cause}
@@ -49,3 +49,14 @@ buffer_after (Err e) out at bs = out
 abbrev pub ReadsBack : {A : Type 0} → Result A Refusal → List ℕ → ℕ → Call → Type 0
 ReadsBack (Ok place) out at c = length out ≤ longest → read_at out at ≡ Ok (Some c)
 ReadsBack (Err e) out at c = Unit {0}
+
+-- what was written, in a buffer of any length, is the same call when its bytes alone are read as a sheet
+abbrev pub ReadsAlone : {A : Type 0} → Result A Refusal → List ℕ → ℕ → Call → Type 0
+ReadsAlone (Ok place) out at c = read_at (take (width_of c) (drop at out)) 0 ≡ Ok (Some c)
+ReadsAlone (Err e) out at c = Unit {0}
+
+-- a command that was read is written wherever a buffer has room for it
+abbrev pub IsWritable : Result (Option Call) Refusal → Type 0
+IsWritable (Ok None) = Unit {0}
+IsWritable (Ok (Some c)) = (out : List ℕ) (at : ℕ) → at + width_of c ≤ length out → write_at out at c ≡ Ok (at + width_of c)
+IsWritable (Err e) = Unit {0}

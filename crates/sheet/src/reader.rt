@@ -1,6 +1,8 @@
 // The reader: a sheet and the place from which it is read on.
 ghost use Rattle.std.specs.Prelude.{◌≡◌};
-ghost use Rattle.sheet.specs.Reading.{read_at, calls, behind, SameBytes};
+ghost use Rattle.refusals.specs.Refusals.{Answers};
+ghost use Rattle.sheet.specs.Reading.{read_at, sheet_faults, calls, cause_of, behind, SameBytes};
+ghost use Rattle.sheet.specs.Writing.{IsWritable};
 
 use crate::place::Place;
 use crate::reading::read;
@@ -30,6 +32,8 @@ impl<'a> Reader<'a> {
         ensures answer { calls result ≡ read_at self.old.sheet.now self.old.place.at }
         ensures place { self.new.place.at ≡ behind (calls result) self.old.place.at }
         ensures bytes { SameBytes self.old.sheet.now self.old.place.at (calls result) }
+        ensures writable { IsWritable (calls result) }
+        ensures least { Answers (sheet_faults self.old.sheet.now self.old.place.at) (cause_of (calls result)) }
         ensures sheet { self.new.sheet ≡ self.old.sheet }
     {
         read(self.sheet, &mut self.place)

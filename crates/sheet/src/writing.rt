@@ -1,10 +1,11 @@
 // Writing: the bytes of a command at a place of a buffer. The place behind is an answer, so buffer and place are no struct: none would outlive a call.
 ghost use Rattle.std.specs.Prelude.{◌≡◌, ℕ, ◌+◌, ◌^◌, ◌<◌, length, sum_by, if◌then◌else◌, Ok, Err, nat_le, nat_lt};
-ghost use Rattle.refusals.specs.Refusals.{refused};
+ghost use Rattle.refusals.specs.Refusals.{refused, Answers};
 ghost use Rattle.refusals.specs.declared.Cause.TheVariants.{CutShort};
 ghost use Rattle.commands.specs.Calls.{Deal, call_of};
 ghost use Rattle.sheet.specs.Format.{bytes_of, FitsFormat};
-ghost use Rattle.sheet.specs.Writing.{buffer_after, joined, write_at, ReadsBack};
+ghost use Rattle.sheet.specs.Reading.{cause_of};
+ghost use Rattle.sheet.specs.Writing.{buffer_after, joined, write_at, write_faults, ReadsBack, ReadsAlone};
 
 use crate::opcode::Opcode;
 use commands::Command;
@@ -119,6 +120,8 @@ pub fn write(command: &Command<'_>, out: &mut [u8], at: usize) -> Result<usize, 
     ensures answer { result ≡ write_at out.old at (call_of command.now) }
     ensures buffer { out.new ≡ buffer_after result out.old at (bytes_of (call_of command.now)) }
     ensures back { ReadsBack result out.new at (call_of command.now) }
+    ensures alone { ReadsAlone result out.new at (call_of command.now) }
+    ensures least { Answers (write_faults out.old at (call_of command.now)) (cause_of result) }
 {
     put_command(command, out, at)
 }

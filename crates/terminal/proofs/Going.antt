@@ -29,7 +29,7 @@ use Rattle.run.proofs.Progress.{moves_on}
 use Rattle.open_table.specs.declared.open_table.OpenTable.{OpenTable}
 use Rattle.open_table.specs.Sums.{closing_of}
 use Rattle.open_table.specs.Tables.{rules_at, books_at, SheetRun}
-use Rattle.terminal.specs.Printed.{roll_places, run_at, and_further, runs_up_to, all_runs, left_by, run_lines, lines_of_runs}
+use Rattle.terminal.specs.SheetLines.{roll_places, run_at, with_later_runs, runs_up_to, all_runs, state_after, run_lines, lines_of_runs}
 use Rattle.terminal.specs.Promised.{turns_in}
 use Rattle.terminal.specs.Pages.{Emptied, Ready, runs_after, calls_after, lines_after, LedOn, PrintedInPart}
 use Rattle.terminal.proofs.AllCalls.{calls_of, once_with}
@@ -44,15 +44,15 @@ turns_left sheet p _ = 0
 abbrev pub lines_of : State → List (List ℕ)
 lines_of s = run_lines s.entries s.notes
 
-left_append : (b : Books) (rs rs' : List State) → left_by b (rs ++ rs') ≡ left_by (left_by b rs) rs'
-left_append b [] rs' = refl
-left_append b (s ∷ rs) rs' = left_append s.books rs rs'
+state_after_more : (b : Books) (rs rs' : List State) → state_after b (rs ++ rs') ≡ state_after (state_after b rs) rs'
+state_after_more b [] rs' = refl
+state_after_more b (s ∷ rs) rs' = state_after_more s.books rs rs'
 
-lines_then : (b : Books) (rs rs' : List State) → lines_of_runs b (rs ++ rs') ≡ flat_map lines_of rs ++ lines_of_runs (left_by b rs) rs'
+lines_then : (b : Books) (rs rs' : List State) → lines_of_runs b (rs ++ rs') ≡ flat_map lines_of rs ++ lines_of_runs (state_after b rs) rs'
 lines_then b rs rs' =
-    ap (λ x. flat_map lines_of (rs ++ rs') ++ printed_closing (closing_of x) ∷ []) (left_append b rs rs')
-    ∙ ap (λ x. x ++ printed_closing (closing_of (left_by (left_by b rs) rs')) ∷ []) (flat_map-append lines_of rs rs')
-    ∙ append_assoc (flat_map lines_of rs) (flat_map lines_of rs') (printed_closing (closing_of (left_by (left_by b rs) rs')) ∷ [])
+    ap (λ x. flat_map lines_of (rs ++ rs') ++ printed_closing (closing_of x) ∷ []) (state_after_more b rs rs')
+    ∙ ap (λ x. x ++ printed_closing (closing_of (state_after (state_after b rs) rs')) ∷ []) (flat_map-append lines_of rs rs')
+    ∙ append_assoc (flat_map lines_of rs) (flat_map lines_of rs') (printed_closing (closing_of (state_after (state_after b rs) rs')) ∷ [])
 
 -- the runs of a sheet are one run and then those that are to come after it
 module _ (R : Rules) (sheet : List ℕ) (short : length sheet ≤ longest) where
@@ -62,25 +62,25 @@ module _ (R : Rules) (sheet : List ℕ) (short : length sheet ≤ longest) where
   enough : (n : ℕ) (b : Books) (p : ℕ) → length sheet ≤ n + p → runs_up_to n R sheet b p ≡ runs_up_to (suc n) R sheet b p
   enough zero b p few = go (run_at R sheet b p) (moved b p)
     where
-      go : (x : State × Ended) → (x.1 ≡ NoRoom → (p < length sheet) × (p < x.0.place)) → x.0 ∷ [] ≡ and_further (runs_up_to zero R sheet) x
+      go : (x : State × Ended) → (x.1 ≡ NoRoom → (p < length sheet) × (p < x.0.place)) → x.0 ∷ [] ≡ with_later_runs (runs_up_to zero R sheet) x
       go (s, SheetEnd) on = refl
       go (s, Unreadable e) on = refl
       go (s, NoRoom) on = absurd (omega (arith, few, (on refl).0))
   enough (suc n) b p few = go (λ b' p' few'. enough n b' p' few') (run_at R sheet b p) (moved b p)
     where
       go : ((b' : Books) (p' : ℕ) → length sheet ≤ n + p' → runs_up_to n R sheet b' p' ≡ runs_up_to (suc n) R sheet b' p')
-          → (x : State × Ended) → (x.1 ≡ NoRoom → (p < length sheet) × (p < x.0.place)) → and_further (runs_up_to n R sheet) x ≡ and_further (runs_up_to (suc n) R sheet) x
+          → (x : State × Ended) → (x.1 ≡ NoRoom → (p < length sheet) × (p < x.0.place)) → with_later_runs (runs_up_to n R sheet) x ≡ with_later_runs (runs_up_to (suc n) R sheet) x
       go more (s, SheetEnd) on = refl
       go more (s, Unreadable e) on = refl
       go more (s, NoRoom) on = ap (λ rs. s ∷ rs) (more s.books s.place (omega (arith, few, (on refl).1)))
 
-  pub runs_step : (b : Books) (p : ℕ) → all_runs R sheet b p ≡ and_further (all_runs R sheet) (run_at R sheet b p)
+  pub runs_step : (b : Books) (p : ℕ) → all_runs R sheet b p ≡ with_later_runs (all_runs R sheet) (run_at R sheet b p)
   runs_step b p = enough (length sheet) b p (omega arith)
 
-further_is : (R : Rules) (sheet : List ℕ) (x : State × Ended) → and_further (all_runs R sheet) x ≡ x.0 ∷ runs_after R sheet x.1 x.0.books x.0.place
-further_is R sheet (s, SheetEnd) = refl
-further_is R sheet (s, Unreadable e) = refl
-further_is R sheet (s, NoRoom) = refl
+later_runs_are : (R : Rules) (sheet : List ℕ) (x : State × Ended) → with_later_runs (all_runs R sheet) x ≡ x.0 ∷ runs_after R sheet x.1 x.0.books x.0.place
+later_runs_are R sheet (s, SheetEnd) = refl
+later_runs_are R sheet (s, Unreadable e) = refl
+later_runs_are R sheet (s, NoRoom) = refl
 
 -- what one run with empty rolls left, and what is promised of it
 pub record NextRun (R : Rules) (sheet : List ℕ) (b : Books) (p : ℕ) (ended : Ended) (b' : Books) (p' : ℕ) : Type 0 where
@@ -97,7 +97,7 @@ module _ (R : Rules) (sheet : List ℕ) (short : length sheet ≤ longest) (b : 
   pub runs_are : all_runs R sheet b p ≡ (run_at R sheet b p).0 ∷ runs_after R sheet ended b' p'
   runs_are =
       let s : State = (run_at R sheet b p).0 in
-      runs_step R sheet short b p ∙ further_is R sheet (run_at R sheet b p)
+      runs_step R sheet short b p ∙ later_runs_are R sheet (run_at R sheet b p)
       ∙ ap (λ e. s ∷ runs_after R sheet e s.books s.place) (sym m.ends) ∙ ap (λ k. s ∷ runs_after R sheet ended k s.place) (sym m.books) ∙ ap (λ k. s ∷ runs_after R sheet ended b' k) (sym m.place)
 
   -- the lines of a run, and then those to come
@@ -119,12 +119,12 @@ module _ (R : Rules) (sheet : List ℕ) (short : length sheet ≤ longest) (b : 
         calls = ap calls_of turns ∙ map-append (λ u. u.call) s.turns (turns_in rs) ∙ ap (λ x. calls_of s.turns ++ x) h.calls ∙ sym m.once;
         room = subst (All (λ u. most_entries ≤ u.free)) (sym turns) (All-append (λ u. most_entries ≤ u.free) s.turns (turns_in rs) m.room h.room);
         leads = λ o us r.
-            subst (λ x. Reached R o (us ++ x) (left_by s.books rs)) (sym turns)
-            (subst (λ x. Reached R o (us ++ (s.turns ++ turns_in rs)) (left_by x rs)) m.books
-            (subst (λ x. Reached R o x (left_by b' rs)) (append_assoc us s.turns (turns_in rs)) (h.leads o (us ++ s.turns) (m.leads o us r))));
-        meant = ap (λ x. let u : Told = record { books = left_by x rs; entries = flat_map (λ z. z.entries) (s ∷ rs); notes = flat_map (λ z. z.notes) (s ∷ rs) } in u) (sym m.books)
-            ∙ ap (λ x. let u : Told = record { books = left_by b' rs; entries = x; notes = flat_map (λ z. z.notes) (s ∷ rs) } in u) entries
-            ∙ ap (λ x. let u : Told = record { books = left_by b' rs; entries = s.entries ++ flat_map (λ z. z.entries) rs; notes = x } in u) notes
+            subst (λ x. Reached R o (us ++ x) (state_after s.books rs)) (sym turns)
+            (subst (λ x. Reached R o (us ++ (s.turns ++ turns_in rs)) (state_after x rs)) m.books
+            (subst (λ x. Reached R o x (state_after b' rs)) (append_assoc us s.turns (turns_in rs)) (h.leads o (us ++ s.turns) (m.leads o us r))));
+        meant = ap (λ x. let u : Told = record { books = state_after x rs; entries = flat_map (λ z. z.entries) (s ∷ rs); notes = flat_map (λ z. z.notes) (s ∷ rs) } in u) (sym m.books)
+            ∙ ap (λ x. let u : Told = record { books = state_after b' rs; entries = x; notes = flat_map (λ z. z.notes) (s ∷ rs) } in u) entries
+            ∙ ap (λ x. let u : Told = record { books = state_after b' rs; entries = s.entries ++ flat_map (λ z. z.entries) rs; notes = x } in u) notes
             ∙ ap (and_then s.entries s.notes) h.meant ∙ sym m.parts;
         written = entries ∙ ap (λ x. x ++ flat_map (λ z. z.entries) rs) m.by_turns ∙ ap (λ x. entries_in s.turns ++ x) h.written
             ∙ sym (flat_map-append (λ u. u.entries) s.turns (turns_in rs)) ∙ ap entries_in (sym turns);
@@ -146,7 +146,7 @@ pub record Going (sheet : List ℕ) (t : OpenTable) (p : ℕ) (first : Ended) (p
   pub done : List State
   pub printed : page' ≡ page ++ concat (flat_map lines_of done)
   pub runs : runs_after (rules_at t) sheet first (books_at t) p ≡ done ++ runs_after (rules_at t) sheet ended (books_at t') p'
-  pub left : books_at t' ≡ left_by (books_at t) done
+  pub left : books_at t' ≡ state_after (books_at t) done
   pub led : LedOn (rules_at t) sheet (books_at t') p' ended (runs_after (rules_at t) sheet ended (books_at t') p') → LedOn (rules_at t) sheet (books_at t) p first (runs_after (rules_at t) sheet first (books_at t) p)
   pub game : t'.table.game ≡ t.table.game
 
@@ -179,7 +179,7 @@ module _ (sheet : List ℕ) (t : OpenTable) (p : ℕ) (first : Ended) (page : Li
         printed = printed ∙ ap (λ x. x ++ concat (lines_of s)) h.printed ∙ concat_then page (flat_map lines_of h.done) (lines_of s)
             ∙ ap (λ x. page ++ concat x) (ap (λ x. flat_map lines_of h.done ++ x) (sym (flat_map-cons lines_of s [] ∙ append-nil (lines_of s))) ∙ sym (flat_map-append lines_of h.done (s ∷ [])));
         runs = h.runs ∙ ap (λ x. h.done ++ x) is ∙ sym (append_assoc h.done (s ∷ []) (runs_after R sheet ended (books_at t'') p''));
-        left = m.books ∙ sym (left_append (books_at t) h.done (s ∷ []));
+        left = m.books ∙ sym (state_after_more (books_at t) h.done (s ∷ []));
         led = λ a. h.led (subst (LedOn R sheet (books_at t') p' NoRoom) (sym is) (led_then R sheet short (books_at t') p' ended (books_at t'') p'' m (runs_after R sheet ended (books_at t'') p'') a));
         game = game ∙ h.game;
       }

@@ -7,7 +7,7 @@ use Rattle.std.specs.List.{concat}
 use Rattle.ledger.specs.declared.entries.Entry.{Entry}
 use Rattle.ledger.specs.declared.notes.Note.{Note}
 use Rattle.lines.specs.Lines.{printed_entry, printed_note, lines_of, InPart}
-use Rattle.terminal.specs.Printed.{run_lines}
+use Rattle.terminal.specs.SheetLines.{run_lines}
 use Rattle.terminal.specs.Pages.{PrintedInPart}
 
 pub one_line : (line : List ℕ) → concat (line ∷ []) ≡ line

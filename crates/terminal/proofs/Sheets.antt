@@ -34,8 +34,9 @@ use Rattle.open_table.specs.Begins.{RunningFrom, SheetBegun}
 use Rattle.open_table.specs.Firsts.{first_refusal}
 use Rattle.open_table.specs.Tables.{opening_of, opening_causes, rules_at, books_at}
 use Rattle.open_table.proofs.Summing.{parts_add_up}
-use Rattle.terminal.specs.Printed.{run_at, all_runs, left_by, run_lines, lines_of_runs, LinesOf, empty, refused, played}
-use Rattle.terminal.specs.Promised.{turns_in, Kept, Promised, OneText}
+use Rattle.terminal.specs.SheetLines.{run_at, all_runs, state_after, run_lines, lines_of_runs, LinesOf, empty, refused, played}
+use Rattle.terminal.specs.Promised.{turns_in, RunsPromised, Promised}
+use Rattle.terminal.specs.Printed.{OneText}
 use Rattle.terminal.specs.Pages.{Ready, runs_after, lines_after, LedOn, PrintedInPart, Page, PageInPart}
 use Rattle.terminal.proofs.Going.{NextRun, runs_are, lines_are, led_then, one_run, lines_so, by_places}
 use Rattle.terminal.proofs.Parts.{one_line, concat_then, part_behind, part_more, none_in_part}
@@ -110,24 +111,24 @@ module _ (sheet : List ℕ) (l : Roll Entry) (n : Roll Note) (t : OpenTable) (en
   these = played b.conditions b.tray t.table.game b.reads b.accepted b.game
 
   -- the promise
-  kept_all : LedOn R sheet (books_at t) p' ended (runs_after R sheet ended (books_at t) p') → Kept R sheet b.conditions b.tray all
+  all_promised : LedOn R sheet (books_at t) p' ended (runs_after R sheet ended (books_at t) p') → RunsPromised R sheet b.conditions b.tray all
   unfolding all s R first behind
-  kept_all led =
+  all_promised led =
       let rs = runs_after R sheet ended (books_at t) p' in
       let o : Opening = opening_of b.conditions b.tray in
       let is : all ≡ s ∷ rs = runs_are R sheet short first behind ended (books_at t) p' next in
       let on : LedOn R sheet first behind NoRoom all = subst (LedOn R sheet first behind NoRoom) (sym is) (led_then R sheet short first behind ended (books_at t) p' next rs led) in
       let whole : Reached R o s.turns (books_at t) = subst (λ x. Reached R o x.0.turns (books_at t)) (by_places R sheet first behind l n ended (books_at t) p' l₁ n₁ ready b.ran) b.whole in
-      let reached_so : Reached R o (turns_in (s ∷ rs)) (left_by first (s ∷ rs)) =
-      subst (λ x. Reached R o x (left_by first (s ∷ rs))) (sym (flat_map-cons (λ x. x.turns) s rs)) (subst (λ x. Reached R o (s.turns ++ turns_in rs) (left_by x rs)) next.books (led.leads o s.turns whole)) in
-      let reached : Reached R o (turns_in all) (left_by first all) = subst (λ x. Reached R o (turns_in x) (left_by first x)) (sym is) reached_so in
+      let reached_so : Reached R o (turns_in (s ∷ rs)) (state_after first (s ∷ rs)) =
+      subst (λ x. Reached R o x (state_after first (s ∷ rs))) (sym (flat_map-cons (λ x. x.turns) s rs)) (subst (λ x. Reached R o (s.turns ++ turns_in rs) (state_after x rs)) next.books (led.leads o s.turns whole)) in
+      let reached : Reached R o (turns_in all) (state_after first all) = subst (λ x. Reached R o (turns_in x) (state_after first x)) (sym is) reached_so in
       record {
         calls = on.calls;
         room = on.room;
         reached = reached;
         meant = on.meant;
         written = on.written;
-        adds_up = omega (arith, reached.chips_add_up, parts_add_up (left_by first all).seats);
+        adds_up = omega (arith, reached.chips_add_up, parts_add_up (state_after first all).seats);
       }
 
   promised : LedOn R sheet (books_at t) p' ended (runs_after R sheet ended (books_at t) p') → Promised sheet
@@ -135,10 +136,10 @@ module _ (sheet : List ℕ) (l : Roll Entry) (n : Roll Note) (t : OpenTable) (en
   promised led c tray game reads accepted opens =
       let both = one_open b.conditions c b.tray tray (read_at sheet 0) b.reads reads in
       let open_too : Opens b.conditions.game b.conditions.cap b.conditions.odds game = subst (λ k. Opens k.game k.cap k.odds game) (sym both.0) opens in
-      let of : Rules → Conditions → ℕ → Type 0 = λ Q k t. Kept Q sheet k t (all_runs Q sheet (opened (opening_of k t)) (width_of (Open k t))) in
+      let of : Rules → Conditions → ℕ → Type 0 = λ Q k t. RunsPromised Q sheet k t (all_runs Q sheet (opened (opening_of k t)) (width_of (Open k t))) in
       subst (of (rules_of game) c) both.1
       (subst (λ k. of (rules_of game) k b.tray) both.0
-      (subst (λ Q. of Q b.conditions b.tray) (same_rules b.conditions.game b.conditions.cap b.conditions.odds t.table.game game b.game open_too) (kept_all led)))
+      (subst (λ Q. of Q b.conditions b.tray) (same_rules b.conditions.game b.conditions.cap b.conditions.odds t.table.game game b.game open_too) (all_promised led)))
 
   module _ (page page' page'' : List ℕ) where
     pub all_printed : page' ≡ page ++ concat (run_lines (kept l₁) (kept n₁)) → page'' ≡ page' ++ concat (lines_after (rules_at t) sheet ended (books_at t) p')

@@ -1,4 +1,4 @@
 pub mod Pages
 pub mod Printed
 pub mod Promised
-pub mod Streams
+pub mod SheetLines

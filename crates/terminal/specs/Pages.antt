@@ -17,8 +17,9 @@ use Rattle.run.specs.declared.ended.Ended.TheVariants.{NoRoom}
 use Rattle.run.specs.Meaning.{most_entries}
 use Rattle.run.specs.Runs.{State, to_come}
 use Rattle.run.specs.StopRule.{entries_in}
-use Rattle.terminal.specs.Printed.{roll_places, all_runs, left_by, lines_of_runs, LinesOf}
-use Rattle.terminal.specs.Promised.{turns_in, outcome, PrintedOf}
+use Rattle.terminal.specs.SheetLines.{roll_places, all_runs, state_after, lines_of_runs, LinesOf}
+use Rattle.terminal.specs.Promised.{turns_in, outcome}
+use Rattle.terminal.specs.Printed.{PrintedOf}
 
 -- a roll that keeps nothing, on as many places as before
 pub record Emptied {R : Type 0} (r r' : Roll R) : Type 0 where
@@ -46,7 +47,7 @@ calls_after sheet _ p = []
 pub record LedOn (R : Rules) (sheet : List ℕ) (b : Books) (p : ℕ) (ended : Ended) (rs : List State) : Type 0 where
   pub calls : map (λ u. u.call) (turns_in rs) ≡ calls_after sheet ended p
   pub room : All (λ u. most_entries ≤ u.free) (turns_in rs)
-  pub leads : (o : Opening) (us : List Turn) → Reached R o us b → Reached R o (us ++ turns_in rs) (left_by b rs)
+  pub leads : (o : Opening) (us : List Turn) → Reached R o us b → Reached R o (us ++ turns_in rs) (state_after b rs)
   pub meant : outcome b rs ≡ to_come R sheet ended b p
   pub written : (outcome b rs).entries ≡ entries_in (turns_in rs)
 

@@ -6,8 +6,8 @@ ghost use Rattle.std.specs.List.{concat};
 ghost use Rattle.ledger.specs.Rolls.{kept};
 ghost use Rattle.sheet.specs.Reading.{longest};
 ghost use Rattle.open_table.specs.Tables.{rules_at, books_at};
-ghost use Rattle.terminal.specs.Printed.{run_lines};
-ghost use Rattle.terminal.specs.Promised.{OneText};
+ghost use Rattle.terminal.specs.SheetLines.{run_lines};
+ghost use Rattle.terminal.specs.Printed.{OneText};
 ghost use Rattle.terminal.specs.Pages.{Emptied, Ready, runs_after, lines_after, LedOn, PrintedInPart, Page, PageInPart};
 
 use ledger::entries::Entry;

@@ -1,21 +1,39 @@
-// Settles the worked sheets that are named, one after another, each under its name.
+//! Settles the worked sheets that are named, one after another, each under its name.
 #![tactic(auto)]
 
-use std::fs::File;
-use std::io::{BufWriter, Write};
-use std::{env, io};
-use terminal::streams::{read_sheet, settle_to};
+ghost use Rattle.std.specs.Prelude.{OnOk, IfSome};
+ghost use Rattle.byte_streams.specs.Streams.{Writes};
+ghost use Rattle.worked.specs.Named.{NamedOutput};
 
-fn settle_file(rt: &HostRuntime, out: &mut BufWriter<io::Stdout>, name: &str) -> io::Result<()> {
-    let sheet = read_sheet(rt.alloc(), File::open(rt, name)?)?;
-    writeln!(out, "== {name}")?;
-    settle_to(rt.alloc(), out, &sheet)
+use anyhow::Result;
+use byte_streams::error::StreamError;
+use byte_streams::sink::{Sink, ToWriter, write_all};
+use byte_streams::source::{FromReader, Source};
+use std::alloc::Global;
+use std::env;
+use std::fs::File;
+use terminal::streams::settle_stream;
+
+// Writes the name of a sheet, and then what is printed of it.
+fn settle_named<S: Source, T: Sink>(
+    alloc: Global,
+    name: &str,
+    source: &mut S,
+    sink: &mut T,
+) -> Result<(), StreamError>
+    ensures { OnOk result (IfSome (S.remaining source.old) (λ bytes. Writes (NamedOutput name.now bytes) (T.contents sink.old) (T.contents sink.new))) }
+{
+    write_all(sink, b"== ")?;
+    write_all(sink, name.as_bytes())?;
+    write_all(sink, b"\n")?;
+    settle_stream(alloc, source, sink)
 }
 
-fn main(rt: HostRuntime) -> io::Result<()> {
-    let mut out = BufWriter::new(rt.alloc(), rt.stdout())?;
+fn main(rt: HostRuntime) -> Result<()> {
+    let mut sink = ToWriter(rt.stdout());
     for name in env::args(&rt)?.skip(1) {
-        settle_file(&rt, &mut out, name.as_str())?;
+        let mut source = FromReader(File::open(&rt, name.as_str())?);
+        settle_named(rt.alloc(), name.as_str(), &mut source, &mut sink)?;
     }
-    out.flush()
+    Ok(())
 }

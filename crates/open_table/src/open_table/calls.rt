@@ -40,7 +40,7 @@ impl OpenTable {
         Ok(OpenTable { table })
     }
 
-    // Performs one command.
+    /// Performs one command: an accepted settlement writes its entries to the ledger; a refused command changes nothing.
     pub fn perform(
         &mut self,
         command: Command<'_>,
@@ -51,7 +51,7 @@ impl OpenTable {
         self.table.perform(command, ledger)
     }
 
-    // Runs a sheet from a place on, and answers how the run ended.
+    /// Runs a sheet from the reading place on, and returns how the run ended, as `running::run` does.
     pub fn run(&mut self, reader: &mut Reader<'_>, rolls: &mut Rolls<'_>) -> Result<Ended, Refusal>
         ensures run { SheetRun self.old reader.old.sheet.now reader.old.place.at rolls.old.ledger rolls.old.notes result self.new reader.new.place.at rolls.new.ledger rolls.new.notes }
         ensures sheet { reader.new.sheet ≡ reader.old.sheet }

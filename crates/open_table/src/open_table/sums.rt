@@ -22,7 +22,7 @@ impl OpenTable {
         View::new(&self.table.books().seats[k], part)
     }
 
-    // The sum of all seats by a part of their chips. No open table holds so much that it is refused.
+    /// Returns the sum of all seats by a part of their chips, in chips. No open table holds so much that it is refused.
     pub fn sum_of_seats(&self, part: Part) -> Result<i64, Refusal>
         ensures summed { result ≡ summed (λ s. pos (in_part part s)) (books_at self.now).seats }
         ensures exact { result ≡ Ok (pos (sum_by (in_part part) (books_at self.now).seats)) }
@@ -39,7 +39,7 @@ impl OpenTable {
         self.sum_of_seats(part).unwrap() as u64
     }
 
-    // Tray, racks and spaces; together they are the total.
+    /// Returns where all chips lie, in chips: tray, racks and spaces. Together they are the table's total.
     pub fn closing(&self) -> Closing
         ensures closing { result ≡ closing_of (books_at self.now) }
         ensures total { result.tray + result.racks + result.spaces ≡ total (books_at self.now) }

@@ -8,7 +8,7 @@ use grading::ThreeGrading;
 use refusals::Refusal;
 
 impl<G: ThreeGrading + Copy> Fortune<G> {
-    // The game at these odds of Pair Plus, each 1 to 1,000; it takes no cap.
+    /// Returns the game at these odds of Pair Plus, each 1 to 1,000, with a cap of 0; refuses other conditions with 18, which names no seat.
     pub fn open(grading: G, cap: u64, odds: [u16; 5]) -> Result<Fortune<G>, Refusal>
         ensures { Opened grading cap odds result }
     {

@@ -2,7 +2,7 @@
 ghost use Rattle.std.specs.Prelude.{◌≡◌, true};
 ghost use Rattle.game.specs.Odds.{all_postable};
 
-// The odds of Pair Plus are those of straight flush, three, straight, flush and pair, in this order.
+/// A game of Fortune. The odds of Pair Plus are those of straight flush, three, straight, flush and pair, in this order.
 #[derive(Drop)]
 pub struct Fortune<G> {
     pub(crate) grading: G,

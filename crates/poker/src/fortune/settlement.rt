@@ -2,7 +2,8 @@
 ghost use Rattle.std.specs.Prelude.{◌≡◌, ◌^◌, ◌<◌, sum};
 ghost use Rattle.poker.specs.Posting.{largest};
 ghost use Rattle.poker.specs.Fortune.{fortune_opens, fortune_outcome, bonus_odds, bonus, posted_odds, pair_plus_return, fortune_spaces, fortune_ceiling, rules_of};
-ghost use Rattle.poker.specs.Laws.{HandsDecide};
+ghost use Rattle.poker.specs.Laws.{HandsDecide, LeftGetsNothing};
+ghost use Rattle.poker.specs.FortuneLaws.{FortuneLaws};
 
 use crate::fortune::posted::Fortune;
 use crate::outcome::Outcome;
@@ -73,7 +74,7 @@ fn largest(odds: &[u16; 5]) -> u16
 }
 
 impl<G: ThreeGrading> Fortune<G> {
-    // Whether the bank opens: with a pair or better, or odd cards headed by a queen, a king or an ace.
+    /// Returns whether the bank opens: with a pair or better, or odd cards headed by a queen, a king or an ace.
     pub fn opens(&self, bank: &[u8]) -> bool
         ensures { result ≡ fortune_opens bank.now }
     {
@@ -90,10 +91,12 @@ impl<G: ThreeGrading> Fortune<G> {
         Outcome::of(self.grading.compare(own, bank), self.opens(bank))
     }
 
-    // What a seat with these cards gets back against these of the bank's, in whatever deal they lie.
+    /// Returns what a seat with these stakes and cards gets back against these cards of the bank's, in chips, in whatever deal they lie; nothing where the seat left.
     pub fn hand_return(&self, stakes: &[u32; 5], choice: Choice, own: &[u8], bank: &[u8]) -> u64
         ensures told { result ≡ sum (fortune_spaces self.now.odds stakes.now choice own.now bank.now) }
         ensures anywhere { HandsDecide 3 (rules_of self.now) stakes.now choice own.now bank.now result }
+        ensures left { LeftGetsNothing (rules_of self.now) }
+        ensures laws { FortuneLaws self.now.odds }
     {
         let ante = stakes::ante(stakes);
         let class = self.grading.class(own);

@@ -15,7 +15,7 @@ fn is_postable(cap: u64) -> bool
 }
 
 impl Stud {
-    // The game at this cap, 1 to 1,000,000,000; it takes no odds.
+    /// Returns the game at this cap, 1 to 1,000,000,000 chips, with five odds of 0; refuses other conditions with 18, which names no seat.
     pub fn open(cap: u64, odds: [u16; 5]) -> Result<Stud, Refusal>
         ensures { Opened cap odds result }
     {

@@ -2,6 +2,7 @@
 ghost use Rattle.std.specs.Prelude.{◌≡◌, true};
 ghost use Rattle.poker.specs.Posting.{cap_postable};
 
+/// A game of Stud, at its cap in chips.
 #[derive(Clone, Copy)]
 pub struct Stud {
     pub(crate) cap: u64,

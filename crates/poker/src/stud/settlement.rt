@@ -1,6 +1,7 @@
 // What a hand of Stud brings against the bank's, and the ceiling of a seat.
 ghost use Rattle.std.specs.Prelude.{◌≡◌, ◌^◌, ◌<◌, sum};
-ghost use Rattle.poker.specs.Laws.{HandsDecide};
+ghost use Rattle.poker.specs.Laws.{HandsDecide, LeftGetsNothing};
+ghost use Rattle.poker.specs.StudLaws.{StudLaws};
 ghost use Rattle.poker.specs.Stud.{stud_opens, stud_outcome, raise_odds, raise_of, raise_pays, stud_spaces, stud_ceiling, rules_of};
 
 use crate::outcome::Outcome;
@@ -54,7 +55,7 @@ fn outcome(own: &[u8], bank: &[u8]) -> Outcome
 }
 
 impl Stud {
-    // Whether the bank opens: with a pair or better, or odd cards with both an ace and a king.
+    /// Returns whether the bank opens: with a pair or better, or odd cards with both an ace and a king.
     pub fn opens(bank: &[u8]) -> bool
         ensures { result ≡ stud_opens bank.now }
     {
@@ -67,10 +68,12 @@ impl Stud {
         }
     }
 
-    // What a seat with these cards gets back against these of the bank's, in whatever deal they lie.
+    /// Returns what a seat with these stakes and cards gets back against these cards of the bank's, in chips, in whatever deal they lie; nothing where the seat left.
     pub fn hand_return(&self, stakes: &[u32; 5], choice: Choice, own: &[u8], bank: &[u8]) -> u64
         ensures told { result ≡ sum (stud_spaces self.now.cap stakes.now choice own.now bank.now) }
         ensures anywhere { HandsDecide 5 (rules_of self.now) stakes.now choice own.now bank.now result }
+        ensures left { LeftGetsNothing (rules_of self.now) }
+        ensures laws { StudLaws self.now.cap }
     {
         let ante = stakes::ante(stakes);
         let raise = 2 * ante as u64;

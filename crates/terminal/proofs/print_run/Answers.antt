@@ -2,7 +2,7 @@
 use Rattle.std.proofs.Common.{◌≡◌, ◌++◌, subst}
 use Rattle.std.specs.List.{concat}
 use Rattle.ledger.specs.Rolls.{kept}
-use Rattle.terminal.specs.Printed.{run_lines}
+use Rattle.terminal.specs.SheetLines.{run_lines}
 use Rattle.terminal.specs.Pages.{PrintedInPart}
 use Rattle.terminal.proofs.Parts.{run_printed, entries_wanting, notes_wanting, on_any_err}
 use Rattle.terminal.proofs.print_run.Goals as goal

@@ -1,9 +1,11 @@
-use Rattle.std.proofs.Common.{Ok, sym, ap, ◌∙◌}
+use Rattle.std.proofs.Common.{Ok, sym, refl, ap, ◌∙◌}
 use Rattle.std.proofs.lemmas.Result.{err_from_is_err_and}
 use Rattle.std.proofs.lemmas.List.Sorted.{IsPermutation-refl}
+use Rattle.grading.specs.Admission.{hands_causes}
 use Rattle.grading.specs.Laws.{InAnyOrders, swapped}
 use Rattle.grading.proofs.Admitted.{both_admitted}
 use Rattle.grading.proofs.Laws.{compared_in_any_orders, refused_in_any_orders, compared_swapped, higher_class_wins}
+use Rattle.grading.proofs.LeastCause.{least_refused}
 use Rattle.grading.proofs.hands.compare.Goals as goal
 
 pub returns-in_err-admit_both : goal.returns-in_err-admit_both
@@ -24,6 +26,7 @@ returns-in_err-admit_both g c =
       any_order = any_order;
       swapped = compared_swapped o.SIZE o.hand order h.compared m.compares g.met.H.Order.turned cs ds ∙ ap swapped (sym answer);
       classes = higher_class_wins o.SIZE o.hand order h.compared m.compares o.class_of g.H.Class.HandClass.lower h.classed m.classes m.by_class cs ds c.from_residual.result answer;
+      least = least_refused (hands_causes o.SIZE cs ds) refl (order (o.hand cs) (o.hand ds)) c.from_residual.result (answer ∙ m.compares cs ds);
     }
 
 pub returns : goal.returns
@@ -44,4 +47,5 @@ returns g c =
       any_order = any_order;
       swapped = compared_swapped o.SIZE o.hand order h.compared m.compares g.met.H.Order.turned cs ds ∙ ap swapped (sym answer);
       classes = higher_class_wins o.SIZE o.hand order h.compared m.compares o.class_of g.H.Class.HandClass.lower h.classed m.classes m.by_class cs ds (Ok c.compare.result) answer;
+      least = least_refused (hands_causes o.SIZE cs ds) refl (order (o.hand cs) (o.hand ds)) (Ok c.compare.result) (answer ∙ m.compares cs ds);
     }

@@ -1,0 +1,4 @@
+mod DifferentCards
+mod DealtOut
+mod FortuneLemmas
+mod StudLemmas
