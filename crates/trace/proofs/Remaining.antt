@@ -34,10 +34,10 @@ module _ {G : Type 0} (g : Ghosts G) (n : ℕ) (sheet : List ℕ) (short : lengt
       let o = h.opening in
       let is = items_of sheet (p + width_of c) in
       let rest : trace_text R o n (turns_at g h ++ turn_on R o n h.table.books c ∷ []) (table_after R o n h.table.books c) is ≡ text_from g h' n sheet (p + width_of c) =
-          ap (λ us. trace_text R o n us (table_after R o n h.table.books c) is) (sym s.turns)
-          ∙ ap (λ b. trace_text R o n (turns_at g h') b is) (sym s.books)
-          ∙ ap (λ q. trace_text R q n (turns_at g h') h'.table.books is) (sym s.opening)
-          ∙ ap (λ x. trace_text (g.rules x) h'.opening n (turns_at g h') h'.table.books is) (sym s.game) in
+      ap (λ us. trace_text R o n us (table_after R o n h.table.books c) is) (sym s.turns)
+      ∙ ap (λ b. trace_text R o n (turns_at g h') b is) (sym s.books)
+      ∙ ap (λ q. trace_text R q n (turns_at g h') h'.table.books is) (sym s.opening)
+      ∙ ap (λ x. trace_text (g.rules x) h'.opening n (turns_at g h') h'.table.books is) (sym s.game) in
       text_here (Ok (Some c)) e ∙ ap (λ t. step_text R o n (turns_at g h) h.table.books p c ++ t) rest
 
   -- with what was printed before: a command more, the end, or a note

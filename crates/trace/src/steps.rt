@@ -81,7 +81,13 @@ impl fmt::Display for Seats {
         write!(
             f,
             "seats {} {} {} {} {} {} {}",
-            self.seat_1, self.seat_2, self.seat_3, self.seat_4, self.seat_5, self.seat_6, self.seat_7
+            self.seat_1,
+            self.seat_2,
+            self.seat_3,
+            self.seat_4,
+            self.seat_5,
+            self.seat_6,
+            self.seat_7
         )
     }
 }

@@ -9,4 +9,4 @@ pub returns : goal.returns
 returns c =
     let p = c.args.position in
     last_line c.print-3.result c.args.page.now.items (with_feed (piles_line p)) (with_feed (seats_line (seats_in p))) (with_feed (sums_line p))
-        c.print.new.page.items c.print-2.new.page.items c.print-3.new.page.items c.in_ok-print.ensures c.in_ok-print-2.ensures c.print-3.ensures
+    c.print.new.page.items c.print-2.new.page.items c.print-3.new.page.items c.in_ok-print.ensures c.in_ok-print-2.ensures c.print-3.ensures

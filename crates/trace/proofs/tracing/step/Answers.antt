@@ -25,17 +25,17 @@ returns-clause-printed g c =
     let s = says R h.opening n b call c.clear.new.self c.perform.new.ledger c.in_ok-answer.answer h'.table.books c.in_ok-answer.ensures.performed c.clear.ensures.kept (omega (arith, c.clear.ensures.places, ap length c.clear.ensures.kept)) in
     let after_us = k.turns ∙ ap (λ u. turns_at g.G.Game h ++ u ∷ []) s.turn in
     let position : position_at g.G.Game h' ≡ position_of h.opening (turns_at g.G.Game h ++ turn_on R h.opening n b call ∷ []) (table_after R h.opening n b call) =
-        ap (λ o. position_of o (turns_at g.G.Game h') h'.table.books) k.opening ∙ ap (λ us. position_of h.opening us h'.table.books) after_us ∙ ap (position_of h.opening (turns_at g.G.Game h ++ turn_on R h.opening n b call ∷ [])) s.books in
+    ap (λ o. position_of o (turns_at g.G.Game h') h'.table.books) k.opening ∙ ap (λ us. position_of h.opening us h'.table.books) after_us ∙ ap (position_of h.opening (turns_at g.G.Game h ++ turn_on R h.opening n b call ∷ [])) s.books in
     last_printed c.print_position.result c.args.page.now.items
-        (with_feed (answered_line c.args.place (name_of call) (verdict R b call n)))
-        (lines_of printed_entry (turn_on R h.opening n b call).entries)
-        (position_text (position_of h.opening (turns_at g.G.Game h ++ turn_on R h.opening n b call ∷ []) (table_after R h.opening n b call)))
-        c.print.new.page.items c.print_all.new.page.items c.print_position.new.page.items
-        (c.in_ok-print.ensures
-            ∙ ap (λ w. c.args.page.now.items ++ with_feed (answered_line c.args.place w c.in_ok-answer.answer)) c.name.ensures
-            ∙ ap (λ r. c.args.page.now.items ++ with_feed (answered_line c.args.place (name_of call) r)) s.answer)
-        (c.in_ok-print_all.ensures.lines ∙ ap (λ es. c.print.new.page.items ++ lines_of printed_entry es) (c.records.ensures ∙ s.entries))
-        (subst (λ p. OnOk c.print_position.result (c.print_position.new.page.items ≡ c.print_all.new.page.items ++ position_text p)) (c.position.ensures.position ∙ position) c.print_position.ensures)
+    (with_feed (answered_line c.args.place (name_of call) (verdict R b call n)))
+    (lines_of printed_entry (turn_on R h.opening n b call).entries)
+    (position_text (position_of h.opening (turns_at g.G.Game h ++ turn_on R h.opening n b call ∷ []) (table_after R h.opening n b call)))
+    c.print.new.page.items c.print_all.new.page.items c.print_position.new.page.items
+    (c.in_ok-print.ensures
+    ∙ ap (λ w. c.args.page.now.items ++ with_feed (answered_line c.args.place w c.in_ok-answer.answer)) c.name.ensures
+    ∙ ap (λ r. c.args.page.now.items ++ with_feed (answered_line c.args.place (name_of call) r)) s.answer)
+    (c.in_ok-print_all.ensures.lines ∙ ap (λ es. c.print.new.page.items ++ lines_of printed_entry es) (c.records.ensures ∙ s.entries))
+    (subst (λ p. OnOk c.print_position.result (c.print_position.new.page.items ≡ c.print_all.new.page.items ++ position_text p)) (c.position.ensures.position ∙ position) c.print_position.ensures)
 
 pub returns-clause-history : goal.returns-clause-history
 returns-clause-history g c =
