@@ -1,5 +1,5 @@
 -- One command performed with an empty ledger: its answer, its entries and the table are those that are printed.
-use Rattle.std.proofs.Common.{◌≡◌, ℕ, List, [], ◌++◌, Result, ap, ◌∙◌, subst}
+use Rattle.std.proofs.Common.{◌≡◌, ℕ, [], ◌++◌, Result, ap, ◌∙◌}
 use Rattle.refusals.specs.declared.Refusal.{Refusal}
 use Rattle.commands.specs.Calls.{Call}
 use Rattle.game.specs.Rules.{Rules}

@@ -1,10 +1,8 @@
 -- What is printed of the items of a sheet on a table that a history led to.
-use Rattle.std.specs.Prelude.{◌≡◌, ℕ, List, [], ◌∷◌, ◌++◌, Result}
-use Rattle.refusals.specs.declared.Refusal.{Refusal}
+use Rattle.std.specs.Prelude.{◌≡◌, ℕ, List, [], ◌∷◌, ◌++◌}
 use Rattle.commands.specs.Calls.{Call, name_of}
 use Rattle.game.specs.declared.interface.Game.{Ghosts}
 use Rattle.game.specs.Rules.{Rules}
-use Rattle.ledger.specs.declared.entries.Entry.{Entry}
 use Rattle.books.specs.declared.table_books.Books.{Books}
 use Rattle.lines.specs.Lines.{with_feed, printed_entry, printed_note, lines_of}
 use Rattle.sheet.specs.Items.{Item, command, fault, items_of}

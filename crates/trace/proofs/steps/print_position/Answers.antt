@@ -1,5 +1,4 @@
 -- The three lines stand one behind another.
-use Rattle.ledger.specs.Lines.{spaced}
 use Rattle.lines.specs.Lines.{with_feed}
 use Rattle.trace.specs.Lines.{piles_line, seats_line, sums_line, seats_in}
 use Rattle.trace.proofs.Appending.{last_line}

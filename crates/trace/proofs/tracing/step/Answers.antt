@@ -1,6 +1,6 @@
 -- What is printed is what was performed.
 use Rattle.std.specs.Prelude.{OnOk}
-use Rattle.std.proofs.Common.{◌≡◌, length, List, [], ◌∷◌, ◌++◌, ap, ◌∙◌, subst, arith}
+use Rattle.std.proofs.Common.{◌≡◌, length, [], ◌∷◌, ◌++◌, ap, ◌∙◌, subst, arith}
 use Rattle.commands.specs.Calls.{call_of, name_of}
 use Rattle.lines.specs.Lines.{with_feed, printed_entry, lines_of}
 use Rattle.ledger.specs.Rolls.{places}
@@ -8,7 +8,7 @@ use Rattle.table.specs.Causes.{verdict}
 use Rattle.history.specs.Histories.{rules_at, turns_at}
 use Rattle.history.specs.Positions.{position_of, position_at}
 use Rattle.trace.specs.Lines.{answered_line, position_text}
-use Rattle.trace.specs.Traces.{turn_on, table_after, Stepped}
+use Rattle.trace.specs.Traces.{turn_on, table_after}
 use Rattle.trace.proofs.Appending.{last_printed, on_any}
 use Rattle.trace.proofs.Stepping.{says}
 use Rattle.trace.proofs.tracing.step.Goals as goal
