@@ -1,3 +1,4 @@
 pub mod Appending
 pub mod Stepping
 pub mod Remaining
+pub mod Whole

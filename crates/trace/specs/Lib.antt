@@ -1,3 +1,4 @@
 pub mod Lines
 pub mod Traces
 pub mod Begun
+pub mod Traced

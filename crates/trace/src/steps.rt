@@ -124,7 +124,7 @@ impl Printed for Sums {
 }
 
 // Prints where the chips lie; where memory runs out some of the lines may be printed.
-pub fn print_position(page: &mut Vec<u8>, position: Position) -> Result<(), AllocError>
+pub(crate) fn print_position(page: &mut Vec<u8>, position: Position) -> Result<(), AllocError>
     ensures { OnOk result (page.new.items ≡ page.old.items ++ position_text position) }
 {
     Piles { position }.print(page)?;

@@ -18,7 +18,7 @@ use sheet::reader::Reader;
 use std::alloc::AllocError;
 
 /// Performs one command with the ledger emptied first, and prints it with its answer, the entries that it wrote, and where the chips lie then.
-pub fn step<'a, G: Game>(
+pub(crate) fn step<'a, G: Game>(
     page: &mut Vec<u8>,
     place: usize,
     command: Command<'a>,
@@ -42,7 +42,7 @@ pub fn step<'a, G: Game>(
 }
 
 /// Performs the commands from the reader's place on, as `step` does, until the sheet ends or one cannot be read, which is noted.
-pub fn steps<'a, G: Game>(
+pub(crate) fn trace_commands<'a, G: Game>(
     page: &mut Vec<u8>,
     reader: &mut Reader<'a>,
     history: &mut History<'a, G>,

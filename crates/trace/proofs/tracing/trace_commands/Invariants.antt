@@ -2,7 +2,7 @@ use Rattle.std.proofs.Common.{◌≡◌, ◌-◌, ◌≤◌, ◌++◌, length}
 use Rattle.ledger.specs.Rolls.{places}
 use Rattle.sheet.specs.Reading.{longest}
 use Rattle.trace.specs.Traces.{text_from}
-use Rattle.trace.proofs.tracing.steps.Given as goal
+use Rattle.trace.proofs.tracing.trace_commands.Given as goal
 
 abbrev pub invariant-loop-command : goal.invariant-loop-command
 invariant-loop-command g l = record {

@@ -3,7 +3,7 @@ use Rattle.std.proofs.Common.{◌≤◌, length, Ok, sym, ap, ◌∙◌, subst}
 use Rattle.commands.specs.Calls.{call_of}
 use Rattle.sheet.specs.Reading.{longest, calls, behind}
 use Rattle.trace.proofs.Remaining.{left_steps, left_ends, left_faults}
-use Rattle.trace.proofs.tracing.steps.Goals as goal
+use Rattle.trace.proofs.tracing.trace_commands.Goals as goal
 
 pub loop-command-preserved : goal.loop-command-preserved
 loop-command-preserved g c =
