@@ -1,13 +1,12 @@
 -- The lines of a sheet from a place on, by what is read there; and those of a sheet that is too long.
-use Rattle.std.proofs.Common.{◌≡◌, ℕ, zero, suc, ◌+◌, ◌<◌, ◌≤◌, List, [], ◌∷◌, ◌++◌, length, Some, None, Ok, Err, Option, Result, codes, decimal, cond, is_ok, OnOk, sym, refl, ap, ◌∙◌, append_assoc, append-nil, arith}
+use Rattle.std.proofs.Common.{◌≡◌, ℕ, zero, suc, ◌+◌, ◌<◌, ◌≤◌, List, [], ◌∷◌, ◌++◌, length, Some, None, Ok, Err, Option, Result, decimal, cond, is_ok, OnOk, sym, refl, ap, ◌∙◌, append_assoc, append-nil, arith}
 use Rattle.std.specs.declared.alloc.AllocError.{AllocError}
 use Rattle.std.proofs.lemmas.Bool.{lt-ltb}
-use Rattle.std.specs.Fmt.{digits}
 use Rattle.refusals.specs.declared.Cause.TheVariants.{SheetTooLong}
 use Rattle.refusals.specs.declared.Refusal.{Refusal}
 use Rattle.refusals.specs.Refusals.{refused}
 use Rattle.commands.specs.Calls.{Call, name_of}
-use Rattle.lines.specs.Lines.{with_feed, printed_note, lines_of}
+use Rattle.lines.specs.Lines.{with_feed, printed_note, too_long_line, lines_of}
 use Rattle.sheet.specs.Format.{width_of}
 use Rattle.sheet.specs.Items.{command, fault, item_and, items, items_of}
 use Rattle.sheet.specs.Reading.{longest, read_at}
@@ -67,9 +66,11 @@ some_items zero sheet many long = absurd (omega (arith, many))
 some_items (suc n) sheet many long = long_items n sheet long
 
 -- what is listed of it
-pub long_listing : (sheet : List ℕ) → longest < length sheet → Listing sheet (with_feed (codes "X 0 22 0 sheet"))
-unfolding digits
-long_listing sheet long = sym (ap (lines_of line_of) (some_items (length sheet) sheet long long) ∙ append-nil (printed_note record { place = 0; refusal = refused SheetTooLong 0 }))
+long_listing : (sheet : List ℕ) → longest < length sheet → Listing sheet too_long_line
+long_listing sheet long = sym (ap (lines_of line_of) (some_items (length sheet) sheet long long) ∙ append-nil too_long_line)
+
+pub line_listed : (sheet line : List ℕ) → longest < length sheet → line ≡ too_long_line → Listing sheet line
+line_listed sheet line long is = is ∙ long_listing sheet long
 
 pub both_long : (sheet sheet' : List ℕ) → longest < length sheet → longest < length sheet' → (output : List ℕ) → Listing sheet output → Listing sheet' output
 both_long sheet sheet' a b output h = h ∙ sym (long_listing sheet a) ∙ long_listing sheet' b

@@ -13,7 +13,7 @@ pub returns-in-Err : goal.returns-in-Err
 returns-in-Err c =
     let l = c.loop-command in
     let note = note_printed c.args.sheet.now l.reader.sheet.now c.requires l.invariant.0 l.reader.place.at l.page.items c.args.page.now.items l.invariant.1 c.in-Err.refusal c.in-Err.ensures.answer in
-    printed_on_ok c.print-in-Err.result l.page.items c.print-in-Err.new.page.items _ _ c.print-in-Err.ensures note
+    printed_on_ok c.print_fault.result l.page.items c.print_fault.new.page.items _ _ c.print_fault.ensures note
 
 pub loop-command-preserved : goal.loop-command-preserved
 loop-command-preserved c =
