@@ -1,6 +1,6 @@
 //! A sheet's commands, a line for each: read from a source, and written to a sink.
-ghost use Rattle.std.specs.Prelude.{◌≡◌, ◌≤◌, ◌∷◌, ◌++◌, Some, decimal, length, take, refl, is_ok, if◌then◌else◌, OnOk};
-ghost use Rattle.lines.specs.Lines.{with_feed, lines_of};
+ghost use Rattle.std.specs.Prelude.{◌≡◌, ◌≤◌, ◌∷◌, ◌++◌, Some, decimal, length, take, refl, is_ok, if◌then◌else◌, OnOk, OnErr};
+ghost use Rattle.lines.specs.Lines.{with_feed, lines_of, InPart};
 ghost use Rattle.sheet.specs.Items.{fault, items_of};
 ghost use Rattle.sheet.specs.Reading.{longest};
 ghost use Rattle.byte_streams.specs.Streams.{Streams};
@@ -45,10 +45,11 @@ fn print_fault(page: &mut Vec<u8>, place: usize, refusal: Refusal) -> Result<(),
     Note { place, refusal }.print(page)
 }
 
-// Prints a line for each command, and at last why none could be read, if that is how it ends.
+// Prints a line for each command, and at last why none could be read, if that is how it ends. `Err` where an allocation failed: then the first few lines are printed, each whole, and not all.
 fn list_commands(page: &mut Vec<u8>, sheet: &[u8]) -> Result<(), AllocError>
     requires { length sheet.now ≤ longest }
-    ensures { OnOk result (page.new.items ≡ page.old.items ++ lines_of line_of (items_of sheet.now 0)) }
+    ensures listed { OnOk result (page.new.items ≡ page.old.items ++ lines_of line_of (items_of sheet.now 0)) }
+    ensures in_part { OnErr result (InPart line_of (items_of sheet.now 0) page.old.items page.new.items) }
 {
     let mut reader = Reader::new(sheet);
     loop {

@@ -1,5 +1,5 @@
 -- What is written behind a line that was written before it.
-use Rattle.std.proofs.Common.{◌≡◌, ℕ, ◌+◌, List, [], ◌∷◌, ◌++◌, length, take, codes, Option, Some, None, IfSome, Result, Ok, Err, sym, refl, subst, arith, length-append}
+use Rattle.std.proofs.Common.{◌≡◌, ℕ, ◌+◌, List, ◌++◌, length, take, Option, Some, None, Result, Ok, Err, IsErrAnd, sym, refl, subst, arith, length-append}
 use Rattle.std.proofs.KnownBytes.{Appends-trans, Appends-kept}
 use Rattle.std.proofs.lemmas.List.{take-append-le}
 use Rattle.std.proofs.Math.Seq.{take-append-add}
@@ -7,10 +7,10 @@ use Rattle.std.specs.Io.KnownBytes.{Appends}
 use Rattle.std.specs.declared.io.Error.{Error}
 use Rattle.byte_streams.specs.declared.error.StreamError.{StreamError}
 use Rattle.byte_streams.specs.declared.error.StreamError.TheVariants.{Reading, OutOfMemory, Writing}
-use Rattle.byte_streams.specs.Streams.{AppendsPart, WritesAll, Writes, WritesPart, Streams}
+use Rattle.byte_streams.specs.Streams.{AppendsPart, WritesAll, Streams}
 use Rattle.sheet.specs.Reading.{longest}
 use Rattle.terminal.specs.Printed.{PrintedOf}
-use Rattle.worked.specs.Named.{name_line, NamedOutput, NamedPart, of_line, of_output, NamedStreams}
+use Rattle.worked.specs.Named.{name_line, of_line, of_output, NamedStreams}
 
 -- a part of some bytes is a part of more
 part_of_more : (a b : Option (List ℕ)) (xs ys : List ℕ) → AppendsPart a b xs → AppendsPart a b (xs ++ ys)
@@ -30,10 +30,14 @@ part_behind a b c xs ys before part = record {
 
 module _ (writes : Error → Type 0) where
   -- writing that failed, and bytes behind it that were not written
-  pub writes_first : (a b : Option (List ℕ)) (xs ys : List ℕ) (e : StreamError) → WritesAll writes a b xs (Err e) → WritesAll writes a b (xs ++ ys) (Err e)
-  writes_first a b xs ys (Reading e) done = absurd done
-  writes_first a b xs ys OutOfMemory done = absurd done
-  writes_first a b xs ys (Writing e) done = (done.0, part_of_more a b xs ys done.1)
+  writes_part : (a b : Option (List ℕ)) (xs ys : List ℕ) (e : StreamError) → WritesAll writes a b xs (Err e) → WritesAll writes a b (xs ++ ys) (Err e)
+  writes_part a b xs ys (Reading e) done = absurd done
+  writes_part a b xs ys OutOfMemory done = absurd done
+  writes_part a b xs ys (Writing e) done = (done.0, part_of_more a b xs ys done.1)
+
+  pub writes_first : (a b : Option (List ℕ)) (xs ys : List ℕ) (e : StreamError) (r : Result Unit StreamError) → IsErrAnd r (λ x. x ≡ e) → WritesAll writes a b xs (Err e) → WritesAll writes a b (xs ++ ys) r
+  writes_first a b xs ys e (Ok u) is done = absurd is
+  writes_first a b xs ys e (Err x) is done = subst (λ z. WritesAll writes a b (xs ++ ys) (Err z)) (sym is) (writes_part a b xs ys e done)
 
   -- writing behind bytes that were all written
   pub writes_then : (a b c : Option (List ℕ)) (xs ys : List ℕ) (r : Result Unit StreamError) → Appends a b xs → WritesAll writes b c ys r → WritesAll writes a c (xs ++ ys) r
@@ -42,12 +46,15 @@ module _ (writes : Error → Type 0) where
   writes_then a b c xs ys (Err OutOfMemory) before done = absurd done
   writes_then a b c xs ys (Err (Writing e)) before done = (done.0, part_behind a b c xs ys before done.1)
 
-  module _ (name : List ℕ) (reads : Error → Type 0) (known : Option (List ℕ)) where
-    -- where the line of the name was not written
-    pub line_wanting : (a b : Option (List ℕ)) (e : StreamError) → WritesAll writes a b (name_line name) (Err e) → NamedStreams name reads writes known a b (Err e)
-    line_wanting a b (Reading e) done = absurd done
-    line_wanting a b OutOfMemory done = absurd done
-    line_wanting a b (Writing e) done = (done.0, of_line done.1)
+  -- where the line of the name was not written
+  line_part : (name : List ℕ) (reads : Error → Type 0) (known a b : Option (List ℕ)) (e : StreamError) → WritesAll writes a b (name_line name) (Err e) → NamedStreams name reads writes known a b (Err e)
+  line_part name reads known a b (Reading e) done = absurd done
+  line_part name reads known a b OutOfMemory done = absurd done
+  line_part name reads known a b (Writing e) done = (done.0, of_line done.1)
+
+  pub line_wanting : (name : List ℕ) (reads : Error → Type 0) (known a b : Option (List ℕ)) (e : StreamError) (r : Result Unit StreamError) → IsErrAnd r (λ x. x ≡ e) → WritesAll writes a b (name_line name) (Err e) → NamedStreams name reads writes known a b r
+  line_wanting name reads known a b e (Ok u) is done = absurd is
+  line_wanting name reads known a b e (Err x) is done = subst (λ z. NamedStreams name reads writes known a b (Err z)) (sym is) (line_part name reads known a b e done)
 
   -- where it was, and the sheet was settled behind it
   pub named : (name : List ℕ) (reads : Error → Type 0) (known a b c : Option (List ℕ)) → Appends a b (name_line name) → (r : Result Unit StreamError) → Streams PrintedOf longest reads writes known b c r → NamedStreams name reads writes known a c r

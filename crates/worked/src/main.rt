@@ -14,6 +14,7 @@ use std::fs::File;
 use terminal::streams::settle_stream;
 
 // Writes the line of a name.
+#[tactic(auto, using(crate::proofs::Naming::writes_then))]
 fn write_name<T: Sink>(sink: &mut T, name: &str) -> Result<(), StreamError>
     ensures { WritesAll T.fails_with (T.contents sink.old) (T.contents sink.new) (name_line name.now) result }
 {
@@ -24,6 +25,7 @@ fn write_name<T: Sink>(sink: &mut T, name: &str) -> Result<(), StreamError>
 
 // Writes the name of a sheet, and then what is printed of it.
 // Where it returns an error, the line of the name stands alone if the source returned an error or there was no memory, and else a part of the output was written.
+#[tactic(auto, using(crate::proofs::Naming::named))]
 fn settle_named<S: Source, T: Sink>(
     alloc: Global,
     name: &str,
