@@ -1,1 +1,2 @@
 mod Joined
+mod TooLong

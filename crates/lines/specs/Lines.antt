@@ -1,5 +1,7 @@
 -- What is printed of entries, of notes and at the close: the line that is displayed of each, and a line feed.
 use Rattle.std.specs.Prelude.{◌≡◌, ℕ, ◌<◌, List, [], ◌∷◌, ◌++◌, length, take}
+use Rattle.refusals.specs.declared.Cause.TheVariants.{SheetTooLong}
+use Rattle.refusals.specs.Refusals.{refused}
 use Rattle.ledger.specs.Lines as displayed
 use Rattle.ledger.specs.declared.closings.Closing.{Closing}
 use Rattle.ledger.specs.declared.entries.Entry.{Entry}
@@ -20,6 +22,10 @@ printed_note n = with_feed (displayed.note_line n)
 -- what is printed at the close
 abbrev pub printed_closing : Closing → List ℕ
 printed_closing c = with_feed (displayed.closing_line c)
+
+-- what is printed of a sheet that is too long: the note at its first byte
+abbrev pub too_long_line : List ℕ
+too_long_line = printed_note record { place = 0; refusal = refused SheetTooLong 0 }
 
 -- a line for each of some records, in order
 abbrev pub lines_of : {R : Type 0} → (R → List ℕ) → List R → List ℕ

@@ -1,13 +1,21 @@
 // What is printed as a line, and many of its kind one after another.
 ghost use Rattle.std.specs.Prelude.{◌≡◌, ℕ, List, ◌++◌, Some, refl, is_ok, if◌then◌else◌, OnOk, OnErr};
 ghost use Rattle.std.specs.Fmt.{with_newline};
-ghost use Rattle.lines.specs.Lines.{printed_entry, printed_note, printed_closing, lines_of, InPart};
+ghost use Rattle.lines.specs.Lines.{printed_entry, printed_note, printed_closing, too_long_line, lines_of, InPart};
 
 use ledger::closings::Closing;
 use ledger::entries::Entry;
 use ledger::notes::Note;
 use std::alloc::AllocError;
 use std::fmt;
+
+/// Returns what is printed of a sheet that is too long to be read. It is a constant, so that this refusal needs no memory.
+#[tactic(auto, using(crate::proofs::TooLong::its_bytes))]
+pub fn too_long_note() -> &'static [u8]
+    ensures { result.now ≡ too_long_line }
+{
+    b"X 0 22 0 sheet\n"
+}
 
 // Room for the longest line, that of an entry; a longer one would only take more.
 const LINE_ROOM: usize = 80;

@@ -1,10 +1,9 @@
 -- A sheet that is too long is refused from its first byte, so all such sheets print the same.
-use Rattle.std.proofs.Common.{◌≡◌, ℕ, ◌<◌, List, [], ◌∷◌, length, Err, codes, sym, refl, ap, ◌∙◌, subst}
+use Rattle.std.proofs.Common.{◌≡◌, ℕ, ◌<◌, List, [], ◌∷◌, length, Err, sym, refl, ap, ◌∙◌, subst}
 use Rattle.std.proofs.lemmas.Bool.{lt-ltb}
 use Rattle.refusals.specs.declared.Cause.TheVariants.{SheetTooLong}
 use Rattle.refusals.specs.Refusals.{refused as refused_for}
-use Rattle.std.specs.Fmt.{digits}
-use Rattle.lines.specs.Lines.{printed_note, with_feed}
+use Rattle.lines.specs.Lines.{printed_note, too_long_line}
 use Rattle.run.specs.Meaning.{note_of}
 use Rattle.sheet.specs.Reading.{longest, read_at}
 use Rattle.open_table.specs.Firsts.{first_refusal}
@@ -29,10 +28,9 @@ long_prints sheet long = record {
   promised = λ c tray game reads accepted opens. let h = sym reads ∙ too_long sheet long in absurd cc;
 }
 
--- the line that this is
-pub long_line : printed_note (note_of 0 (refused_for SheetTooLong 0)) ≡ with_feed (codes "X 0 22 0 sheet")
-unfolding digits
-long_line = refl
+-- whatever bytes are that line are what is printed of it
+pub line_printed : (sheet line : List ℕ) → longest < length sheet → line ≡ too_long_line → PrintedOf sheet line
+line_printed sheet line long is = subst (PrintedOf sheet) (sym is) (long_prints sheet long)
 
 -- two sheets that are both too long print the same
 pub both_long : (sheet sheet' : List ℕ) → longest < length sheet → longest < length sheet' → (text : List ℕ) → PrintedOf sheet text → PrintedOf sheet' text

@@ -6,7 +6,6 @@ use Rattle.std.proofs.lemmas.List.Elements.{All-append}
 use Rattle.std.proofs.lemmas.Grind.{flat_map-append}
 use Rattle.std.specs.Borrow.{Bor}
 use Rattle.std.specs.List.{concat}
-use Rattle.refusals.specs.declared.Refusal.{Refusal}
 use Rattle.game.specs.Rules.{Rules}
 use Rattle.games.specs.Rules.{rules_of}
 use Rattle.ledger.specs.declared.entries.Entry.{Entry}
@@ -256,10 +255,10 @@ module _ (R : Rules) (sheet : List ℕ) (b : Books) (p : ℕ) (l : Roll Entry) (
 -- one more run from where a loop has come to, as the code has it
 module _ (s s' : Bor (List ℕ)) (still : s' ≡ s) (short : length s.now ≤ longest) (t : OpenTable) (p : ℕ) (first : Ended) (page : List ℕ)
     (t' : OpenTable) (p' : ℕ) (e : Ended) (page' : List ℕ) (stopped : e ≡ NoRoom) (h : Going s.now t p first page t' p' e page') (l : Roll Entry) (n : Roll Note) (ready : Ready l n)
-    (r : Result Ended Refusal) (ended : Ended) (well : r ≡ Ok ended) (t'' : OpenTable) (p'' : ℕ) (l₁ : Roll Entry) (n₁ : Roll Note) (run : SheetRun t' s'.now p' l n r t'' p'' l₁ n₁) where
+    (ended : Ended) (t'' : OpenTable) (p'' : ℕ) (l₁ : Roll Entry) (n₁ : Roll Note) (run : SheetRun t' s'.now p' l n (Ok ended) t'' p'' l₁ n₁) where
   ran : Ran (rules_at t) s.now (books_at t') p' l n ended (books_at t'') p'' l₁ n₁
   ran =
-      let here : SheetRun t' s.now p' l n (Ok ended) t'' p'' l₁ n₁ = subst (λ x. SheetRun t' x.now p' l n (Ok ended) t'' p'' l₁ n₁) still (subst (λ x. SheetRun t' s'.now p' l n x t'' p'' l₁ n₁) well run) in
+      let here : SheetRun t' s.now p' l n (Ok ended) t'' p'' l₁ n₁ = subst (λ x. SheetRun t' x.now p' l n (Ok ended) t'' p'' l₁ n₁) still run in
       subst (λ g. Ran (rules_of g) s.now (books_at t') p' l n ended (books_at t'') p'' l₁ n₁) h.game here.answered.1
 
   game_same : t''.table.game ≡ t'.table.game

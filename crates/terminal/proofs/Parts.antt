@@ -1,11 +1,16 @@
 -- Lines on a page, one behind another, and the first few of them.
-use Rattle.std.proofs.Common.{◌≡◌, ℕ, ◌+◌, List, [], ◌∷◌, ◌++◌, map, length, take, sym, refl, ap, ◌∙◌, append_assoc, length-append, arith, Result, Ok, Err, OnErr}
+use Rattle.std.proofs.Common.{◌≡◌, ℕ, ◌+◌, List, [], ◌∷◌, ◌++◌, map, length, take, sym, refl, ap, ◌∙◌, append_assoc, length-append, subst, arith, Result, Ok, Err, OnErr}
 use Rattle.std.proofs.lemmas.List.{append-nil, take-append-le, take-map, length-map}
 use Rattle.std.proofs.lemmas.List.Folds.{concat-append}
 use Rattle.std.proofs.Math.Seq.{take-append-add}
 use Rattle.std.specs.List.{concat}
 use Rattle.ledger.specs.declared.entries.Entry.{Entry}
 use Rattle.ledger.specs.declared.notes.Note.{Note}
+use Rattle.ledger.specs.declared.rolls.Roll.{Roll}
+use Rattle.refusals.specs.declared.Refusal.{Refusal}
+use Rattle.run.specs.declared.ended.Ended.{Ended}
+use Rattle.open_table.specs.declared.open_table.OpenTable.{OpenTable}
+use Rattle.open_table.specs.Tables.{SheetRun}
 use Rattle.lines.specs.Lines.{printed_entry, printed_note, lines_of, InPart}
 use Rattle.terminal.specs.SheetLines.{run_lines}
 use Rattle.terminal.specs.Pages.{PrintedInPart}
@@ -61,6 +66,11 @@ entries_wanting es ns page page' part = part_more (map printed_entry es) (map pr
 pub notes_wanting : (es : List Entry) (ns : List Note) (page page' page'' : List ℕ) → page' ≡ page ++ lines_of printed_entry es → InPart printed_note ns page' page'' → PrintedInPart (run_lines es ns) page page''
 notes_wanting es ns page page' page'' one part =
     part_behind (map printed_entry es) (map printed_note ns) page page' page'' (one ∙ ap (λ z. page ++ z) (lines_joined printed_entry es)) (records_part printed_note ns page' page'' part)
+
+-- what is promised of a run that returned no error
+pub ran_well : (t : OpenTable) (sheet : List ℕ) (p : ℕ) (l : Roll Entry) (n : Roll Note) (r : Result Ended Refusal) (ended : Ended) (t' : OpenTable) (p' : ℕ) (l' : Roll Entry) (n' : Roll Note)
+    → SheetRun t sheet p l n r t' p' l' n' → r ≡ Ok ended → SheetRun t sheet p l n (Ok ended) t' p' l' n'
+ran_well t sheet p l n r ended t' p' l' n' run well = subst (λ x. SheetRun t sheet p l n x t' p' l' n') well run
 
 -- what holds anyway holds at an error
 pub on_any_err : {T E P : Type 0} (r : Result T E) → P → OnErr r P

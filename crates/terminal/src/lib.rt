@@ -1,11 +1,13 @@
 // The terminal: a sheet settled from its first byte to its last, and the page that is printed of it.
 #![tactic(auto)]
 
-ghost use Rattle.std.specs.Prelude.{◌≡◌, ℕ, ◌≤◌, List, [], ◌++◌, length, OnOk, OnErr};
+ghost use Rattle.std.specs.Prelude.{◌≡◌, ℕ, ◌≤◌, List, [], ◌++◌, length, Ok, is_ok, if◌then◌else◌, OnOk, OnErr};
 ghost use Rattle.std.specs.List.{concat};
 ghost use Rattle.ledger.specs.Rolls.{kept};
+ghost use Rattle.lines.specs.Lines.{printed_closing};
 ghost use Rattle.sheet.specs.Reading.{longest};
-ghost use Rattle.open_table.specs.Tables.{rules_at, books_at};
+ghost use Rattle.open_table.specs.Sums.{closing_of};
+ghost use Rattle.open_table.specs.Tables.{rules_at, books_at, SheetRun};
 ghost use Rattle.terminal.specs.SheetLines.{run_lines};
 ghost use Rattle.terminal.specs.Printed.{OneText};
 ghost use Rattle.terminal.specs.Pages.{Emptied, Ready, runs_after, lines_after, LedOn, PrintedInPart, Page, PageInPart};
@@ -15,6 +17,7 @@ use ledger::notes::Note;
 use ledger::rolls::Roll;
 use lines::printed::{Printed, print_all};
 use open_table::begun::{Begun, begin};
+use open_table::open_table::OpenTable;
 use refusals::{Cause, Refusal};
 use run::ended::Ended;
 use run::rolls::Rolls;
@@ -59,6 +62,24 @@ fn print_run(page: &mut Vec<u8>, rolls: &mut Rolls<'_>) -> Result<(), AllocError
     Ok(())
 }
 
+// Runs the sheet further, and returns how the run ended.
+#[tactic(auto, using(crate::proofs::Parts::ran_well))]
+fn run_further(table: &mut OpenTable, reader: &mut Reader<'_>, rolls: &mut Rolls<'_>) -> Ended
+    requires short { length reader.old.sheet.now ≤ longest }
+    ensures run { SheetRun table.old reader.old.sheet.now reader.old.place.at rolls.old.ledger rolls.old.notes (Ok result) table.new reader.new.place.at rolls.new.ledger rolls.new.notes }
+    ensures sheet { reader.new.sheet ≡ reader.old.sheet }
+{
+    // a sheet whose first command was read is not too long
+    table.run(reader, rolls).unwrap()
+}
+
+// Prints the closing line. `Err` where an allocation failed: then the page stays as it was.
+fn print_closing(page: &mut Vec<u8>, table: &OpenTable) -> Result<(), AllocError>
+    ensures { page.new.items ≡ (if is_ok result then page.old.items ++ printed_closing (closing_of (books_at table.now)) else page.old.items) }
+{
+    table.closing().print(page)
+}
+
 // Runs the sheet further as long as runs stop early, with empty rolls each time, and prints each run and then the closing line.
 // The sheet's length is asked as by a step of a run.
 fn go_on(
@@ -78,10 +99,10 @@ fn go_on(
         mut ended,
     } = begun;
     while let Ended::NoRoom = ended {
-        ended = table.run(reader, rolls).unwrap();
+        ended = run_further(&mut table, reader, rolls);
         print_run(page, rolls)?;
     }
-    table.closing().print(page)
+    print_closing(page, &table)
 }
 
 /// Settles a sheet from its first byte, and prints what is printed of it to the end of a page.

@@ -1,5 +1,5 @@
 //! One call from the first byte of a sheet to the last of its output: read from a source, settled, and written to a sink.
-ghost use Rattle.std.specs.Prelude.{ℕ, ◌<◌, List, Some, length};
+ghost use Rattle.std.specs.Prelude.{◌≤◌, Some, length, take};
 ghost use Rattle.sheet.specs.Reading.{longest};
 ghost use Rattle.byte_streams.specs.Streams.{Streams};
 ghost use Rattle.terminal.specs.Printed.{PrintedOf};
@@ -8,20 +8,12 @@ use crate::settle;
 use byte_streams::error::StreamError;
 use byte_streams::sink::{Sink, write_all};
 use byte_streams::source::{Source, fill};
+use lines::printed::too_long_note;
 use sheet::reading::LONGEST;
 use std::alloc::Global;
 
-// One byte more than a sheet may have, so that a longer one is seen to be longer.
-const ROOM: usize = 65_537;
-
-// The note of a sheet that is too long. It is a constant, so that this refusal needs no memory.
-fn too_long_note() -> &'static [u8]
-    ensures { (sheet : List ℕ) → longest < length sheet → PrintedOf sheet result.now }
-{
-    b"X 0 22 0 sheet\n"
-}
-
 // Settles a sheet, and writes what is printed of it.
+#[tactic(auto, using(crate::proofs::Cutting::line_printed))]
 fn settle_to<T: Sink>(alloc: Global, sink: &mut T, sheet: &[u8]) -> Result<(), StreamError>
     ensures { Streams PrintedOf longest (λ _. ⊥) T.fails_with (Some sheet.now) (T.contents sink.old) (T.contents sink.new) result }
 {
@@ -31,6 +23,19 @@ fn settle_to<T: Sink>(alloc: Global, sink: &mut T, sheet: &[u8]) -> Result<(), S
     let mut page = Vec::new(alloc);
     settle(&mut page, sheet)?;
     write_all(sink, &page)
+}
+
+// Settles the sheet that was read to the front of a buffer, and writes what is printed of it.
+fn settle_read<T: Sink>(
+    alloc: Global,
+    sink: &mut T,
+    buffer: &[u8],
+    read: usize,
+) -> Result<(), StreamError>
+    requires within { read ≤ length buffer.now }
+    ensures { Streams PrintedOf longest (λ _. ⊥) T.fails_with (Some (take read buffer.now)) (T.contents sink.old) (T.contents sink.new) result }
+{
+    settle_to(alloc, sink, &buffer[..read])
 }
 
 /// Reads a sheet to the end of a source, but no further than one byte more than a sheet may have; settles it; and writes what is printed of it to a sink.
@@ -43,7 +48,8 @@ pub fn settle_stream<S: Source, T: Sink>(
 ) -> Result<(), StreamError>
     ensures { Streams PrintedOf longest S.fails_with T.fails_with (S.remaining source.old) (T.contents sink.old) (T.contents sink.new) result }
 {
-    let mut buffer = [0u8; ROOM];
+    // one byte more than a sheet may have, so that a longer one is seen to be longer
+    let mut buffer = [0u8; LONGEST + 1];
     let read = fill(source, &mut buffer)?;
-    settle_to(alloc, sink, &buffer[..read])
+    settle_read(alloc, sink, &buffer, read)
 }

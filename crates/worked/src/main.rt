@@ -1,9 +1,8 @@
 //! Settles the worked sheets that are named, one after another, each under its name.
 #![tactic(auto)]
 
-ghost use Rattle.std.specs.Prelude.{OnOk, IfSome};
-ghost use Rattle.byte_streams.specs.Streams.{Writes};
-ghost use Rattle.worked.specs.Named.{NamedOutput};
+ghost use Rattle.byte_streams.specs.Streams.{WritesAll};
+ghost use Rattle.worked.specs.Named.{name_line, NamedStreams};
 
 use anyhow::Result;
 use byte_streams::error::StreamError;
@@ -14,18 +13,28 @@ use std::env;
 use std::fs::File;
 use terminal::streams::settle_stream;
 
+// Writes the line of a name.
+#[tactic(auto, using(crate::proofs::Naming::writes_then))]
+fn write_name<T: Sink>(sink: &mut T, name: &str) -> Result<(), StreamError>
+    ensures { WritesAll T.fails_with (T.contents sink.old) (T.contents sink.new) (name_line name.now) result }
+{
+    write_all(sink, b"== ")?;
+    write_all(sink, name.as_bytes())?;
+    write_all(sink, b"\n")
+}
+
 // Writes the name of a sheet, and then what is printed of it.
+// Where it returns an error, the line of the name stands alone if the source returned an error or there was no memory, and else a part of the output was written.
+#[tactic(auto, using(crate::proofs::Naming::named))]
 fn settle_named<S: Source, T: Sink>(
     alloc: Global,
     name: &str,
     source: &mut S,
     sink: &mut T,
 ) -> Result<(), StreamError>
-    ensures { OnOk result (IfSome (S.remaining source.old) (λ bytes. Writes (NamedOutput name.now bytes) (T.contents sink.old) (T.contents sink.new))) }
+    ensures { NamedStreams name.now S.fails_with T.fails_with (S.remaining source.old) (T.contents sink.old) (T.contents sink.new) result }
 {
-    write_all(sink, b"== ")?;
-    write_all(sink, name.as_bytes())?;
-    write_all(sink, b"\n")?;
+    write_name(sink, name)?;
     settle_stream(alloc, source, sink)
 }
 

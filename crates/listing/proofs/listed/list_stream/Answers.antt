@@ -13,4 +13,4 @@ returns g c =
     let room : length c.fill.new.buffer ≡ longest + 1 = c.fill.auto.buffer in
     read_all Listing longest both_long g.S.Source.fails_with g.T.Sink.fails_with known bytes
     (subst (λ n. IfSome known (λ xs. bytes ≡ take n xs)) room c.in_ok-read.ensures.bytes)
-    (g.T.Sink.contents c.args.sink.now) (g.T.Sink.contents c.list_to.new.sink) c.list_to.result c.list_to.ensures
+    (g.T.Sink.contents c.args.sink.now) (g.T.Sink.contents c.list_read.new.sink) c.list_read.result c.list_read.ensures

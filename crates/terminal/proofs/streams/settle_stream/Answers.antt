@@ -13,4 +13,4 @@ returns g c =
     let room : length c.fill.new.buffer ≡ longest + 1 = c.fill.auto.buffer in
     read_all PrintedOf longest both_long g.S.Source.fails_with g.T.Sink.fails_with known bytes
     (subst (λ n. IfSome known (λ xs. bytes ≡ take n xs)) room c.in_ok-read.ensures.bytes)
-    (g.T.Sink.contents c.args.sink.now) (g.T.Sink.contents c.settle_to.new.sink) c.settle_to.result c.settle_to.ensures
+    (g.T.Sink.contents c.args.sink.now) (g.T.Sink.contents c.settle_read.new.sink) c.settle_read.result c.settle_read.ensures
