@@ -94,7 +94,7 @@ fn read_head<R: Read>(reader: &mut R, head: &mut [u8; 3]) -> io::Result<usize>
 }
 
 /// Answers each line of an input, from its first byte, or behind a byte-order mark that it begins with, to its end: a line is written for each
-/// line, and an empty one for a line with no word and no bar. What does not end with a line feed is a line too. IsHandAfter no line whole.
+/// line, and an empty one for a line with no word and no bar. What does not end with a line feed is a line too. Keeps no line whole.
 pub fn grade_lines<R: Read + Drop, W: Write>(mut reader: R, writer: &mut W) -> Result<(), Failure>
     ensures { OnOk result (IfSome (R.remaining reader) (λ input. Appends (W.contents writer.old) (W.contents writer.new) (answers_of (without_mark input)))) }
 {

@@ -41,7 +41,8 @@ fn settle_named<S: Source, T: Sink>(
 fn main(rt: HostRuntime) -> Result<()> {
     let mut sink = ToWriter(rt.stdout());
     for name in env::args(&rt)?.skip(1) {
-        let mut source = FromReader(File::open(&rt, name.as_str())?);
+        let file = File::open(&rt, name.as_str()).map_err(StreamError::Reading)?;
+        let mut source = FromReader(file);
         settle_named(rt.alloc(), name.as_str(), &mut source, &mut sink)?;
     }
     Ok(())
