@@ -1,16 +1,15 @@
 -- The trace of a whole sheet, from what was printed of it.
-use Rattle.std.proofs.Common.{◌≡◌, ℕ, ◌<◌, List, [], ◌++◌, length, Some, None, Ok, Err, Result, OnOk, is_ok, if◌then◌else◌, codes, sym, refl, ap, ◌∙◌, append_assoc, arith}
+use Rattle.std.proofs.Common.{◌≡◌, ℕ, ◌<◌, List, [], ◌++◌, length, Some, None, Ok, Err, Result, OnOk, is_ok, if◌then◌else◌, sym, refl, ap, ◌∙◌, subst, append_assoc, arith}
 use Rattle.std.specs.Borrow.{Bor}
 use Rattle.std.proofs.lemmas.List.{append-nil}
 use Rattle.std.proofs.lemmas.Bool.{lt-ltb}
-use Rattle.std.specs.Fmt.{digits}
 use Rattle.refusals.specs.declared.Cause.TheVariants.{SheetTooLong}
 use Rattle.refusals.specs.Refusals.{refused as refused_for}
 use Rattle.game.specs.declared.interface.Game.{Ghosts}
 use Rattle.games.specs.declared.any_game.AnyGame.{AnyGame}
 use Rattle.games.specs.Rules.{rules_of}
 use Rattle.ledger.specs.declared.notes.Note.{Note}
-use Rattle.lines.specs.Lines.{printed_note, with_feed}
+use Rattle.lines.specs.Lines.{printed_note, too_long_line}
 use Rattle.books.specs.declared.table_books.Books.{Books}
 use Rattle.commands.specs.Calls.{Open}
 use Rattle.sheet.specs.Format.{width_of}
@@ -35,13 +34,9 @@ use Rattle.trace.specs.Traced.{text_behind, TraceOf, empty, refused, performed, 
 too_long : (sheet : List ℕ) → longest < length sheet → read_at sheet 0 ≡ Err (refused_for SheetTooLong 0)
 too_long sheet long = rw (lt-ltb longest (length sheet) long) refl
 
--- its trace, and the line that this is
-pub long_trace : (sheet : List ℕ) → longest < length sheet → TraceOf sheet (printed_note (note_of 0 (refused_for SheetTooLong 0)))
-long_trace sheet long = refused (refused_for SheetTooLong 0) (sym (ap first_refusal (too_long sheet long)))
-
-pub long_line : printed_note (note_of 0 (refused_for SheetTooLong 0)) ≡ with_feed (codes "X 0 22 0 sheet")
-unfolding digits
-long_line = refl
+-- whatever bytes are the line of such a sheet are its trace
+pub line_traced : (sheet line : List ℕ) → longest < length sheet → line ≡ too_long_line → TraceOf sheet line
+line_traced sheet line long is = subst (TraceOf sheet) (sym is) (refused (refused_for SheetTooLong 0) (sym (ap first_refusal (too_long sheet long))))
 
 -- two sheets that are both too long have the same trace
 pub both_long : (sheet sheet' : List ℕ) → longest < length sheet → longest < length sheet' → (text : List ℕ) → TraceOf sheet text → TraceOf sheet' text

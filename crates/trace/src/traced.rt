@@ -1,5 +1,5 @@
 //! A sheet traced from its first byte to its last: read from a source, performed, and its trace written to a sink.
-ghost use Rattle.std.specs.Prelude.{ℕ, ◌<◌, ◌≤◌, List, Some, length, OnOk};
+ghost use Rattle.std.specs.Prelude.{◌≤◌, Some, length, OnOk};
 ghost use Rattle.sheet.specs.Reading.{longest};
 ghost use Rattle.byte_streams.specs.Streams.{Streams};
 ghost use Rattle.trace.specs.Traced.{TraceOf, Traced};
@@ -12,13 +12,10 @@ use byte_streams::sink::{Sink, write_all};
 use byte_streams::source::{Source, fill};
 use ledger::entries::Entry;
 use ledger::rolls::Roll;
-use lines::printed::Printed;
+use lines::printed::{Printed, too_long_note};
 use sheet::reader::Reader;
 use sheet::reading::LONGEST;
 use std::alloc::{AllocError, Global};
-
-// One byte more than a sheet may have, so that a longer one is seen to be longer.
-const ROOM: usize = 65_537;
 
 // The ledger has so many places and is emptied before each command, so that none is ever wanting.
 const PLACES: usize = 7;
@@ -30,13 +27,6 @@ const NO_ENTRY: Entry = Entry {
     returned: 0,
     net: 0,
 };
-
-// The note of a sheet that is too long. It is a constant, so that this refusal needs no memory.
-fn too_long_note() -> &'static [u8]
-    ensures { (sheet : List ℕ) → longest < length sheet → TraceOf sheet result.now }
-{
-    b"X 0 22 0 sheet\n"
-}
 
 // Prints the trace of a sheet to the end of a page; where an allocation fails, part of it may be printed.
 fn trace(alloc: Global, page: &mut Vec<u8>, sheet: &[u8]) -> Result<(), AllocError>
@@ -57,6 +47,7 @@ fn trace(alloc: Global, page: &mut Vec<u8>, sheet: &[u8]) -> Result<(), AllocErr
 }
 
 // Traces a sheet, and writes its trace.
+#[tactic(auto, using(crate::proofs::Whole::line_traced))]
 fn trace_to<T: Sink>(alloc: Global, sink: &mut T, sheet: &[u8]) -> Result<(), StreamError>
     ensures { Streams TraceOf longest (λ _. ⊥) T.fails_with (Some sheet.now) (T.contents sink.old) (T.contents sink.new) result }
 {
@@ -77,7 +68,8 @@ pub fn trace_stream<S: Source, T: Sink>(
 ) -> Result<(), StreamError>
     ensures { Streams TraceOf longest S.fails_with T.fails_with (S.remaining source.old) (T.contents sink.old) (T.contents sink.new) result }
 {
-    let mut buffer = [0u8; ROOM];
+    // one byte more than a sheet may have, so that a longer one is seen to be longer
+    let mut buffer = [0u8; LONGEST + 1];
     let read = fill(source, &mut buffer)?;
     trace_to(alloc, sink, &buffer[..read])
 }
