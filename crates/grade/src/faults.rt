@@ -36,7 +36,7 @@ impl Fault {
 }
 
 /// The answer of grading, with the fault in the place of its refusal.
-pub fn with_fault<X: Drop>(graded: Result<X, Refusal>) -> Result<X, Fault>
+pub(crate) fn with_fault<X: Drop>(graded: Result<X, Refusal>) -> Result<X, Fault>
     requires { IfErr graded FaultRefused }
     ensures { as_refusal result ≡ graded }
 {
