@@ -1,5 +1,5 @@
 #!/usr/bin/env bash
-# Compares PROGRAM with the baseline, byte by byte, on N sheets full of foolish commands.
+# Compares PROGRAM with the baseline, byte by byte, on N sheets of malformed and mistaken commands.
 #
 #   differ.sh PROGRAM N [SEED]
 #

@@ -24,7 +24,7 @@ impl From<io::Error> for Failure {
 impl fmt::Display for Failure {
     fn fmt<W: fmt::Write>(&self, f: &mut fmt::Formatter<W>) -> fmt::Result {
         match self {
-            Failure::Memory => write!(f, "no memory was left"),
+            Failure::Memory => write!(f, "out of memory"),
             Failure::TooMany => write!(f, "a class has too many hands to count"),
             Failure::Writing(error) => write!(f, "writing failed: {error}"),
         }

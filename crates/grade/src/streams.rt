@@ -26,7 +26,7 @@ impl fmt::Display for Failure {
         match self {
             Failure::Reading(error) => write!(f, "reading failed: {error}"),
             Failure::Writing(error) => write!(f, "writing failed: {error}"),
-            Failure::Memory => write!(f, "no memory was left"),
+            Failure::Memory => write!(f, "out of memory"),
         }
     }
 }
