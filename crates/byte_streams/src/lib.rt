@@ -7,6 +7,8 @@ pub mod error;
 pub mod sink;
 /// Sources of bytes, and filling a buffer from one.
 pub mod source;
+#[cfg(test)]
+mod tests;
 
 // How often a call is made in a row where a signal interrupts it each time.
 const TRIES: u32 = 1_000;

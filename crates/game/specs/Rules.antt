@@ -79,4 +79,4 @@ pub record Facts (R : Rules) : Type 0 where
 
 -- in a game that ever tells a choice, space 2 is the raise's and takes no stake
 abbrev pub RaiseSpace : Rules → Type 0
-RaiseSpace R = (stakes others : List ℕ) → Small stakes → R.chooses stakes ≡ true → Small others → R.takes others 2 ≡ Err NoBets
+RaiseSpace R = (stakes others : List ℕ) → Small stakes → R.chooses stakes ≡ true → Small others → R.takes (other_stakes others 2) 2 ≡ Err NoBets

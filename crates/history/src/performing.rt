@@ -16,11 +16,15 @@ use table::holdings::Table;
 use table::opening::Opening;
 
 impl<'a, G: Game + Drop> History<'a, G> {
+    ghost use Rattle.refusals.specs.Refusals.{Answers};
+    ghost use Rattle.table.specs.Opening.{open_causes};
+    ghost use Rattle.table.specs.Performing.{cause_in};
     ghost use Rattle.history.specs.Histories.{Opened};
 
     /// Returns a newly opened table of this game, on which no call was made yet, or the refusal of its opening.
     pub fn open(alloc: Global, game: G, opening: Opening) -> Result<History<'a, G>, Refusal>
-        ensures { Opened G.Game game opening result }
+        ensures opened { Opened G.Game game opening result }
+        ensures least { Answers (open_causes opening) (cause_in result) }
     {
         let table = Table::open(game, opening)?;
         Ok(History {

@@ -64,7 +64,7 @@ impl<G: Game> Table<G> {
         if ledger.free() < self.stakers() {
             return Err(Refusal::new(Cause::NoPlaceFree, 0));
         }
-        // A loop over the seats by their places, as the rules of the project fix it.
+        // A loop over the seats by their places, in order, as a dealer serves them: each is settled before the next.
         for k in 0..7 {
             self.settle_seat(k, &deal, ledger);
         }

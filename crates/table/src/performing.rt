@@ -1,4 +1,4 @@
-// One command on the table: decided by the stage and the command together, in one match in place, as the rules of the project fix it.
+// One command on the table: decided by the stage and the command together, in one match in place, so that each pair has its arm where a reader looks for it.
 // Each pair is named, those that are refused too, so that a new command has to be placed in both stages.
 ghost use Rattle.std.specs.Prelude.{◌≡◌};
 ghost use Rattle.commands.specs.Calls.{call_of};

@@ -1,10 +1,10 @@
 // A sheet performed on a table of any game, command by command, with what is printed of each.
 ghost use Rattle.std.specs.Prelude.{◌≡◌, ℕ, ◌≤◌, ◌++◌, length, OnOk};
 ghost use Rattle.commands.specs.Calls.{call_of};
-ghost use Rattle.ledger.specs.Rolls.{places};
+ghost use Rattle.ledger.specs.Rolls.{kept, places};
 ghost use Rattle.history.specs.Histories.{rules_at, turns_at};
 ghost use Rattle.sheet.specs.Reading.{longest};
-ghost use Rattle.trace.specs.Traces.{Stepped, step_text, text_from};
+ghost use Rattle.trace.specs.Traces.{Stepped, step_text, text_from, turn_on};
 
 use crate::steps::{Step, print_position};
 use commands::Command;
@@ -28,6 +28,7 @@ pub(crate) fn step<'a, G: Game>(
     ensures printed { OnOk result (page.new.items ≡ page.old.items ++ step_text (rules_at G.Game history.old) history.old.opening (places ledger.old) (turns_at G.Game history.old) history.old.table.books place (call_of command.entry)) }
     ensures history { OnOk result (Stepped G.Game history.old (places ledger.old) (call_of command.entry) history.new) }
     ensures places { places ledger.new ≡ places ledger.old }
+    ensures ledger { OnOk result (kept ledger.new ≡ (turn_on (rules_at G.Game history.old) history.old.opening (places ledger.old) history.old.table.books (call_of command.entry)).entries) }
 {
     ledger.clear();
     let answer = history.perform(command, ledger)?;

@@ -43,3 +43,9 @@ returns-clause-history g c =
     let k = c.in_ok-answer.ensures.history in
     let s = says (rules_at g.G.Game h) h.opening (places c.args.ledger.now) h.table.books (call_of c.args.command) c.clear.new.self c.perform.new.ledger c.in_ok-answer.answer _ c.in_ok-answer.ensures.performed c.clear.ensures.kept (omega (arith, c.clear.ensures.places, ap length c.clear.ensures.kept)) in
     on_any c.print_position.result (record { game = k.game; opening = k.opening; turns = k.turns ∙ ap (λ u. turns_at g.G.Game h ++ u ∷ []) s.turn; books = s.books })
+
+pub returns-clause-ledger : goal.returns-clause-ledger
+returns-clause-ledger g c =
+    let h = c.args.history.now in
+    let s = says (rules_at g.G.Game h) h.opening (places c.args.ledger.now) h.table.books (call_of c.args.command) c.clear.new.self c.perform.new.ledger c.in_ok-answer.answer _ c.in_ok-answer.ensures.performed c.clear.ensures.kept (omega (arith, c.clear.ensures.places, ap length c.clear.ensures.kept)) in
+    on_any c.print_position.result s.entries
