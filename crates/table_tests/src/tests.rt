@@ -15,6 +15,7 @@ mod betting; // Bet and Deal.
 mod choosing; // Raise and Leave.
 mod ending; // Settle and Void.
 mod foolish; // Arguments that no sane caller hands in.
+mod histories; // A table with the history of its calls.
 
 // The most chips that a table holds.
 pub(crate) const LIMIT: u64 = 1_000_000_000_000;
