@@ -2,6 +2,8 @@
 #![tactic(auto)]
 
 mod counts; // Counting hands by their classes.
+#[cfg(test)]
+mod tests; // What is said of each failure.
 
 use counts::{Failure, count_all};
 use grading::{FiveHand, HandClass, ThreeHand};

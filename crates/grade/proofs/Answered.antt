@@ -1,191 +1,203 @@
--- Lines that were answered, and what is left of an input.
-use Rattle.std.proofs.Common.{◌≡◌, ℕ, suc, Bool, true, false, cond, not, ◌&&◌, eqb, List, [], ◌∷◌, ◌++◌, length, Some, None, Option, Result, sym, refl, ap, ◌∙◌, subst, arith}
-use Rattle.std.specs.List.{list_all, flat_map, onto_first}
-use Rattle.std.specs.Option.{IfSome}
-use Rattle.std.specs.Io.KnownBytes.{Appends, Consumes, IsAtEnd}
-use Rattle.std.proofs.lemmas.Bool.{and_parts, both_ways}
+-- Lines that were answered, and what is kept of an input.
+use Rattle.std.proofs.Common.{◌≡◌, ℕ, suc, ◌+◌, ◌<◌, Bool, true, false, cond, not, ◌&&◌, eqb, List, [], ◌∷◌, ◌++◌, length, take, Ok, Err, Result, Option, OnOk, sym, refl, ap, ◌∙◌, subst, ⊎_elim, arith, append_assoc, length-append}
+use Rattle.std.specs.List.{flat_map, onto_first, slice_split}
+use Rattle.std.proofs.lemmas.Bool.{cases_Bool, both_ways}
 use Rattle.std.proofs.lemmas.Bool.Decides.{nat_tests}
-use Rattle.std.proofs.lemmas.List.{append_assoc, append-nil}
-use Rattle.std.proofs.lemmas.List.Folds.{list_all-append}
+use Rattle.std.proofs.lemmas.Grind.{flat_map-append}
+use Rattle.std.proofs.lemmas.List.{append-nil}
 use Rattle.refusals.specs.declared.Refusal.{Refusal}
 use Rattle.grade.specs.Answers.{line_answer}
 use Rattle.grade.specs.Lines.{is_word}
-use Rattle.grade.specs.Streams.{answer_text, line_text, lines_of, answers_of}
+use Rattle.grade.specs.Streams.{answer_text, line_text, lines_of, answers_of, is_feed, without_mark}
+use Rattle.grade.specs.Inputs.{IsHeadOf, IsTypedAfter, IsInputAfter, head_with, ends_mark}
 use Rattle.grade.specs.States.{IsLineAfter}
 use Rattle.grade.specs.declared.answers.Answer.{Answer}
-use Rattle.grade.specs.declared.line.Line.{Line}
+use Rattle.grade.specs.declared.input.Head.{Head}
+use Rattle.grade.specs.declared.input.Head.TheVariants.{Start, One, Two, Past}
+use Rattle.grade.specs.declared.input.Input.{Input}
+use Rattle.grade.specs.declared.input.Typed.{Typed}
+use Rattle.grade.proofs.Parts.{split_ended, split_grown, onto_last, onto_last_at, some_part}
 
--- a value that is known
-pub where_known : {X : Type 0} (o : Option X) (P : X → Type 0) → ((x : X) → o ≡ Some x → P x) → IfSome o P
-where_known None P h = tt
-where_known (Some x) P h = h x refl
-
-pub appends_nothing : (o : Option (List ℕ)) → Appends o o []
-appends_nothing None = tt
-appends_nothing (Some xs) = sym (append-nil xs)
-
-pub appends_more : (a b c : Option (List ℕ)) (xs ys : List ℕ) → Appends a b xs → Appends b c ys → Appends a c (xs ++ ys)
-appends_more None b c xs ys p q = tt
-appends_more (Some us) None c xs ys p q = absurd p
-appends_more (Some us) (Some bs) None xs ys p q = absurd q
-appends_more (Some us) (Some bs) (Some cs) xs ys p q = q ∙ ap (λ zs. zs ++ ys) p ∙ append_assoc us xs ys
-
-pub consumes_nothing : (o : Option (List ℕ)) → Consumes o o []
-consumes_nothing None = tt
-consumes_nothing (Some xs) = refl
-
-pub consumes_more : (a b c : Option (List ℕ)) (xs ys : List ℕ) → Consumes a b xs → Consumes b c ys → Consumes a c (xs ++ ys)
-consumes_more None b c xs ys p q = tt
-consumes_more (Some us) None c xs ys p q = absurd p
-consumes_more (Some us) (Some bs) None xs ys p q = absurd q
-consumes_more (Some us) (Some bs) (Some cs) xs ys p q = p ∙ ap (λ zs. xs ++ zs) q ∙ sym (append_assoc xs ys cs)
-
--- what is left behind one byte
-record Behind (left : List ℕ) (new : Option (List ℕ)) (b : ℕ) : Type 0 where
-  rest : List ℕ
-  is : new ≡ Some rest
-  byte : left ≡ b ∷ rest
-
-behind : (left : List ℕ) (new : Option (List ℕ)) (b : ℕ) → Consumes (Some left) new (b ∷ []) → Behind left new b
-behind left None b p = absurd p
-behind left (Some rest) b p = record { rest = rest; is = refl; byte = p }
+pub on_ok : {X E A B : Type 0} (r : Result X E) → (A → B) → OnOk r A → OnOk r B
+on_ok (Ok x) f a = f a
+on_ok (Err e) f a = tt
 
 -- ---- lines
-
-abbrev pub no_feed : List ℕ → Bool
-no_feed bytes = list_all (λ b. not (eqb b 10)) bytes
-
-not_so : (b : Bool) → not b ≡ true → b ≡ false
-not_so true e = sym e
-not_so false e = refl
-
-lines_fed : (current left : List ℕ) → no_feed current ≡ true → lines_of (current ++ 10 ∷ left) ≡ current ∷ lines_of left
-lines_fed [] left h = refl
-lines_fed (b ∷ current) left h =
-    let parts = and_parts (not (eqb b 10)) (no_feed current) h in
-    ap (λ t. cond t ([] ∷ lines_of (current ++ 10 ∷ left)) (onto_first b (lines_of (current ++ 10 ∷ left)))) (not_so (eqb b 10) parts.0)
-    ∙ ap (onto_first b) (lines_fed current left parts.1)
-
-line_last : (b : ℕ) (bytes : List ℕ) → no_feed (b ∷ bytes) ≡ true → lines_of (b ∷ bytes) ≡ (b ∷ bytes) ∷ []
-line_last b [] h =
-    ap (λ t. cond t ([] ∷ []) (onto_first b [])) (not_so (eqb b 10) (and_parts (not (eqb b 10)) true h).0)
-line_last b (c ∷ bytes) h =
-    let parts = and_parts (not (eqb b 10)) (no_feed (c ∷ bytes)) h in
-    ap (λ t. cond t ([] ∷ lines_of (c ∷ bytes)) (onto_first b (lines_of (c ∷ bytes)))) (not_so (eqb b 10) parts.0)
-    ∙ ap (onto_first b) (line_last c bytes parts.1)
-
-answers_fed : (current left : List ℕ) → no_feed current ≡ true → answers_of (current ++ 10 ∷ left) ≡ line_text current ++ answers_of left
-unfolding answers_of
-answers_fed current left h = ap (flat_map line_text) (lines_fed current left h)
-
-answers_last : (current : List ℕ) → is_word current ≡ true → no_feed current ≡ true → answers_of current ≡ line_text current
-unfolding answers_of
-answers_last [] e h = cc
-answers_last (b ∷ bytes) e h = ap (flat_map line_text) (line_last b bytes h) ∙ append-nil (line_text (b ∷ bytes))
 
 some_length : (n : ℕ) → not (eqb (suc n) 0) ≡ true
 some_length n = grind (arith, nat_tests)
 
-answers_none : (current : List ℕ) → is_word current ≡ false → answers_of current ≡ []
+-- one part as a line, if it has any byte
+abbrev pub last_line : List ℕ → List (List ℕ)
+last_line part = cond (is_word part) (part ∷ []) []
+
+-- parts without the last one, if that is empty
+abbrev without_empty_last : List (List ℕ) → List (List ℕ)
+without_empty_last [] = []
+without_empty_last (part ∷ []) = last_line part
+without_empty_last (part ∷ next ∷ more) = part ∷ without_empty_last (next ∷ more)
+
+last_longer : (b : ℕ) (part : List ℕ) → last_line (b ∷ part) ≡ onto_first b (last_line part)
+last_longer b [] = ap (λ t. cond t ((b ∷ []) ∷ []) []) (some_length 0)
+last_longer b (c ∷ part) = ap (λ t. cond t ((b ∷ c ∷ part) ∷ []) []) (some_length (suc (length part))) ∙ ap (λ t. onto_first b (cond t ((c ∷ part) ∷ []) [])) (sym (some_length (length part)))
+
+step : (t : Bool) (b : ℕ) (parts : List (List ℕ)) → 0 < length parts → cond t ([] ∷ without_empty_last parts) (onto_first b (without_empty_last parts)) ≡ without_empty_last (cond t ([] ∷ parts) (onto_first b parts))
+step t b [] h = absurd (omega (arith, h))
+step true b (part ∷ parts) h = refl
+step false b (part ∷ []) h = sym (last_longer b part)
+step false b (part ∷ next ∷ more) h = refl
+
+-- the lines of an input are its parts between line feeds, but for an empty last one
+lines_by_parts : (bytes : List ℕ) → lines_of bytes ≡ without_empty_last (slice_split is_feed bytes)
+lines_by_parts [] = refl
+lines_by_parts (b ∷ bytes) =
+    ap (λ lines. cond (is_feed b) ([] ∷ lines) (onto_first b lines)) (lines_by_parts bytes)
+    ∙ step (is_feed b) b (slice_split is_feed bytes) (some_part is_feed bytes)
+
+last_of : (ended : List (List ℕ)) (current : List ℕ) → without_empty_last (ended ++ current ∷ []) ≡ ended ++ last_line current
+last_of [] current = refl
+last_of (e ∷ []) current = refl
+last_of (e ∷ f ∷ ended) current = ap (λ parts. e ∷ parts) (last_of (f ∷ ended) current)
+
+-- the answers are those of the lines that ended, and of the last
+pub answers_by_parts : (bytes : List ℕ) (ended : List (List ℕ)) (current : List ℕ) → slice_split is_feed bytes ≡ ended ++ current ∷ [] → answers_of bytes ≡ flat_map line_text ended ++ flat_map line_text (last_line current)
 unfolding answers_of
-answers_none [] e = refl
-answers_none (b ∷ bytes) e = absurd (both_ways (is_word (b ∷ bytes)) e (some_length (length bytes)))
+answers_by_parts bytes ended current split =
+    ap (flat_map line_text) (lines_by_parts bytes ∙ ap without_empty_last split ∙ last_of ended current)
+    ∙ flat_map-append line_text ended (last_line current)
+
+-- the answers of the last line
+pub answers_of_last : (bytes : List ℕ) (ended : List (List ℕ)) (current : List ℕ) → slice_split is_feed bytes ≡ ended ++ current ∷ [] → is_word current ≡ true → answers_of bytes ≡ flat_map line_text ended ++ line_text current
+answers_of_last bytes ended current split some =
+    answers_by_parts bytes ended current split
+    ∙ ap (λ t. flat_map line_text ended ++ flat_map line_text (cond t (current ∷ []) [])) some
+    ∙ ap (λ xs. flat_map line_text ended ++ xs) (append-nil (line_text current))
+
+pub answers_of_none : (bytes : List ℕ) (ended : List (List ℕ)) (current : List ℕ) → slice_split is_feed bytes ≡ ended ++ current ∷ [] → is_word current ≡ false → answers_of bytes ≡ flat_map line_text ended
+answers_of_none bytes ended current split none =
+    answers_by_parts bytes ended current split
+    ∙ ap (λ t. flat_map line_text ended ++ flat_map line_text (cond t (current ∷ []) [])) none
+    ∙ append-nil (flat_map line_text ended)
 
 some_bytes : (current : List ℕ) (b : ℕ) → is_word (current ++ b ∷ []) ≡ true
-some_bytes [] b = refl
+some_bytes [] b = some_length 0
 some_bytes (c ∷ current) b = some_length (length (current ++ b ∷ []))
 
--- ---- an input, answered so far
+-- ---- a text with one byte more
 
--- the lines that ended were answered, and the line has taken what came behind them
-pub record AnsweredSoFar (text : List ℕ) (rest before after : Option (List ℕ)) (line : Line) (begun : Bool) : Type 0 where
-  pub current : List ℕ
-  pub left : List ℕ
-  pub out : List ℕ
-  pub rest_is : rest ≡ Some left
-  pub written : Appends before after out
-  pub whole : answers_of text ≡ out ++ answers_of (current ++ left)
-  pub taken : IsLineAfter line current
-  pub no_line_feed : no_feed current ≡ true
-  pub begun_is : begun ≡ is_word current
-
--- the same, where the bytes of the reader are known
-pub record Answering (known rest before after : Option (List ℕ)) (line : Line) (begun : Bool) : Type 0 where
-  pub at : (text : List ℕ) → known ≡ Some text → AnsweredSoFar text rest before after line begun
-
-pub nothing_yet : (known rest writer : Option (List ℕ)) (line : Line) → rest ≡ known → IsLineAfter line [] → Answering known rest writer writer line false
-nothing_yet known rest writer line e taken = record {
-  at = λ text k. record {
-    current = [];
-    left = text;
-    out = [];
-    rest_is = e ∙ k;
-    written = appends_nothing writer;
-    whole = refl;
-    taken = taken;
-    no_line_feed = refl;
-    begun_is = refl;
-  };
+-- a byte of a line
+pub byte_typed : (old new : Typed) (bytes out : List ℕ) (b : ℕ) → is_feed b ≡ false → ((line : List ℕ) → IsLineAfter old.line line → IsLineAfter new.line (line ++ b ∷ [])) → new.begun ≡ true → IsTypedAfter old bytes out → IsTypedAfter new (bytes ++ b ∷ []) out
+byte_typed old new bytes out b other takes begun t = record {
+  ended = t.ended;
+  current = t.current ++ b ∷ [];
+  split = split_grown is_feed bytes b other ∙ ap (onto_last b) t.split ∙ onto_last_at t.ended t.current b;
+  out_is = t.out_is;
+  taken = takes t.current t.taken;
+  begun = begun ∙ sym (some_bytes t.current b);
 }
 
-module _ (known rest before middle : Option (List ℕ)) (line : Line) (begun : Bool) (a : Answering known rest before middle line begun) where
-  -- a byte of the line
-  pub byte_answered : (next : Option (List ℕ)) (new : Line) (b : ℕ) → Consumes rest next (b ∷ []) → eqb b 10 ≡ false → ((bytes : List ℕ) → IsLineAfter line bytes → IsLineAfter new (bytes ++ b ∷ [])) → Answering known next before middle new true
-  byte_answered next new b consumed other takes = record {
-    at = λ text k.
-        let s = a.at text k in
-        let p = behind s.left next b (subst (λ o. Consumes o next (b ∷ [])) s.rest_is consumed) in
-        record {
-          current = s.current ++ b ∷ [];
-          left = p.rest;
-          out = s.out;
-          rest_is = p.is;
-          written = s.written;
-          whole = s.whole ∙ ap (λ xs. s.out ++ answers_of xs) (ap (λ xs. s.current ++ xs) p.byte ∙ sym (append_assoc s.current (b ∷ []) p.rest));
-          taken = takes s.current s.taken;
-          no_line_feed = list_all-append (λ x. not (eqb x 10)) s.current (b ∷ []) ∙ (λ i. s.no_line_feed i && (not (other i) && true));
-          begun_is = sym (some_bytes s.current b);
-        };
-  }
+-- a line feed
+pub line_typed : (old new : Typed) (bytes before page page' : List ℕ) (b : ℕ) (r : Result (Option Answer) Refusal) → is_feed b ≡ true → ((line : List ℕ) → IsLineAfter old.line line → r ≡ line_answer line) → page' ≡ page ++ (answer_text r ++ 10 ∷ []) → IsLineAfter new.line [] → new.begun ≡ false → IsTypedAfter old bytes (before ++ page) → IsTypedAfter new (bytes ++ b ∷ []) (before ++ page')
+line_typed old new bytes before page page' b r feed says printed fresh begun t = record {
+  ended = t.ended ++ t.current ∷ [];
+  current = [];
+  split = split_ended is_feed bytes b feed ∙ ap (λ parts. parts ++ [] ∷ []) t.split;
+  out_is =
+      ap (λ xs. before ++ xs) (printed ∙ ap (λ x. page ++ (answer_text x ++ 10 ∷ [])) (says t.current t.taken))
+      ∙ sym (append_assoc before page (line_text t.current))
+      ∙ ap (λ xs. xs ++ line_text t.current) t.out_is
+      ∙ ap (λ xs. flat_map line_text t.ended ++ xs) (sym (append-nil (line_text t.current)))
+      ∙ sym (flat_map-append line_text t.ended (t.current ∷ []));
+  taken = fresh;
+  begun = begun;
+}
 
-  -- a line feed
-  pub line_answered : (next after : Option (List ℕ)) (new : Line) (b : ℕ) (r : Result (Option Answer) Refusal) → Consumes rest next (b ∷ []) → b ≡ 10 → ((bytes : List ℕ) → IsLineAfter line bytes → r ≡ line_answer bytes) → Appends middle after (answer_text r ++ 10 ∷ []) → IsLineAfter new [] → Answering known next before after new false
-  line_answered next after new b r consumed feed says appended fresh = record {
-    at = λ text k.
-        let s = a.at text k in
-        let p = behind s.left next b (subst (λ o. Consumes o next (b ∷ [])) s.rest_is consumed) in
-        record {
-          current = [];
-          left = p.rest;
-          out = s.out ++ line_text s.current;
-          rest_is = p.is;
-          written = appends_more before middle after s.out (line_text s.current) s.written (subst (λ x. Appends middle after (answer_text x ++ 10 ∷ [])) (says s.current s.taken) appended);
-          whole = s.whole
-              ∙ ap (λ xs. s.out ++ answers_of (s.current ++ xs)) (p.byte ∙ ap (λ x. x ∷ p.rest) feed)
-              ∙ ap (λ xs. s.out ++ xs) (answers_fed s.current p.rest s.no_line_feed)
-              ∙ sym (append_assoc s.out (line_text s.current) (answers_of p.rest));
-          taken = fresh;
-          no_line_feed = refl;
-          begun_is = refl;
-        };
-  }
+-- ---- the head of an input
 
-  at_end : (text : List ℕ) (k : known ≡ Some text) → IsAtEnd rest → answers_of text ≡ (a.at text k).out ++ answers_of (a.at text k).current
-  at_end text k end =
-      let s = a.at text k in
-      let empty : s.left ≡ [] = subst IsAtEnd s.rest_is end in
-      s.whole ∙ ap (λ xs. s.out ++ answers_of xs) (ap (λ xs. s.current ++ xs) empty ∙ append-nil s.current)
+-- past its head, a byte belongs to the text
+record Grown (head : Head) (read : List ℕ) (b : ℕ) : Type 0 where
+  pub head_is : IsHeadOf head (read ++ b ∷ [])
+  pub text : without_mark (read ++ b ∷ []) ≡ without_mark read ++ b ∷ []
 
-  -- the end of the input, behind a line feed
-  pub all_answered : IsAtEnd rest → begun ≡ false → IfSome known (λ text. Appends before middle (answers_of text))
-  all_answered end none = where_known known _ (λ text k.
-      let s = a.at text k in
-      subst (Appends before middle) (sym (at_end text k end ∙ ap (λ xs. s.out ++ xs) (answers_none s.current (sym s.begun_is ∙ none)) ∙ append-nil s.out)) s.written)
+no_first : (b : ℕ) → eqb b 239 ≡ false → (rest : List ℕ) → without_mark (b ∷ rest) ≡ b ∷ rest
+no_first b e [] = refl
+no_first b e (c ∷ []) = refl
+no_first b e (c ∷ d ∷ rest) = ap (λ t. cond (t && (eqb c 187 && eqb d 191)) rest (b ∷ c ∷ d ∷ rest)) e
 
-  -- the end of the input, in a line
-  pub last_answered : (after : Option (List ℕ)) (r : Result (Option Answer) Refusal) → IsAtEnd rest → begun ≡ true → ((bytes : List ℕ) → IsLineAfter line bytes → r ≡ line_answer bytes) → Appends middle after (answer_text r ++ 10 ∷ []) → IfSome known (λ text. Appends before after (answers_of text))
-  last_answered after r end some says appended = where_known known _ (λ text k.
-      let s = a.at text k in
-      subst (Appends before after)
-      (sym (at_end text k end ∙ ap (λ xs. s.out ++ xs) (answers_last s.current (sym s.begun_is ∙ some) s.no_line_feed)))
-      (appends_more before middle after s.out (line_text s.current) s.written (subst (λ x. Appends middle after (answer_text x ++ 10 ∷ [])) (says s.current s.taken) appended)))
+no_second : (b : ℕ) → eqb b 187 ≡ false → (rest : List ℕ) → without_mark (239 ∷ b ∷ rest) ≡ 239 ∷ b ∷ rest
+no_second b e [] = refl
+no_second b e (d ∷ rest) = ap (λ t. cond (t && eqb d 191) rest (239 ∷ b ∷ d ∷ rest)) e
+
+no_third : (b : ℕ) → eqb b 191 ≡ false → (rest : List ℕ) → without_mark (239 ∷ 187 ∷ b ∷ rest) ≡ 239 ∷ 187 ∷ b ∷ rest
+no_third b e rest = ap (λ t. cond t rest (239 ∷ 187 ∷ b ∷ rest)) e
+
+is_that : (b n : ℕ) → eqb b n ≡ true → b ≡ n
+is_that b n e = grind (arith, nat_tests)
+
+at_start : (b : ℕ) → IsHeadOf (cond (eqb b 239) One Past) (b ∷ [])
+at_start b =
+    ⊎_elim
+    (λ (e : eqb b 239 ≡ true). subst (λ t. IsHeadOf (cond t One Past) (b ∷ [])) (sym e) (ap (λ x. x ∷ []) (is_that b 239 e)))
+    (λ (e : eqb b 239 ≡ false). subst (λ t. IsHeadOf (cond t One Past) (b ∷ [])) (sym e) (λ rest. no_first b e rest))
+    (cases_Bool (eqb b 239))
+
+at_one : (b : ℕ) → IsHeadOf (cond (eqb b 187) Two Past) (239 ∷ b ∷ [])
+at_one b =
+    ⊎_elim
+    (λ (e : eqb b 187 ≡ true). subst (λ t. IsHeadOf (cond t Two Past) (239 ∷ b ∷ [])) (sym e) (ap (λ x. 239 ∷ x ∷ []) (is_that b 187 e)))
+    (λ (e : eqb b 187 ≡ false). subst (λ t. IsHeadOf (cond t Two Past) (239 ∷ b ∷ [])) (sym e) (λ rest. no_second b e rest))
+    (cases_Bool (eqb b 187))
+
+grown : (head : Head) (read : List ℕ) (b : ℕ) → ends_mark head b ≡ false → IsHeadOf head read → Grown (head_with head b) read b
+grown Start read b e h = subst (λ xs. Grown (head_with Start b) xs b) (sym h) (record { head_is = at_start b; text = refl })
+grown One read b e h = subst (λ xs. Grown (head_with One b) xs b) (sym h) (record { head_is = at_one b; text = refl })
+grown Two read b e h = subst (λ xs. Grown Past xs b) (sym h) (record { head_is = λ rest. no_third b e rest ∙ ap (λ xs. xs ++ rest) (sym (no_third b e [])); text = no_third b e [] })
+grown Past read b e h = record {
+  head_is = λ rest.
+      ap without_mark (append_assoc read (b ∷ []) rest)
+      ∙ h (b ∷ rest)
+      ∙ sym (append_assoc (without_mark read) (b ∷ []) rest)
+      ∙ ap (λ xs. xs ++ rest) (sym (h (b ∷ [])));
+  text = h (b ∷ []);
+}
+
+-- a byte of the text
+pub byte_taken : (old new : Input) (read out out' : List ℕ) (b : ℕ) → ends_mark old.head b ≡ false → new.head ≡ head_with old.head b → (IsTypedAfter old.typed (without_mark read) out → IsTypedAfter new.typed (without_mark read ++ b ∷ []) out') → IsInputAfter old read out → IsInputAfter new (read ++ b ∷ []) out'
+byte_taken old new read out out' b other head takes k =
+    let g = grown old.head read b other k.head in
+    record {
+      typed = subst (λ xs. IsTypedAfter new.typed xs out') (sym g.text) (takes k.typed);
+      head = subst (λ h. IsHeadOf h (read ++ b ∷ [])) (sym head) g.head_is;
+    }
+
+-- the last byte of a mark
+no_line_of_mark : (ended : List (List ℕ)) (current : List ℕ) → ◌≡◌ {A = List (List ℕ)} ((239 ∷ 187 ∷ []) ∷ []) (ended ++ current ∷ []) → ended ≡ []
+no_line_of_mark [] current e = refl
+no_line_of_mark (l ∷ []) current e = absurd cc
+no_line_of_mark (l ∷ m ∷ ended) current e = absurd cc
+
+two_read : (head : Head) (b : ℕ) (read : List ℕ) → ends_mark head b ≡ true → IsHeadOf head read → (read ≡ 239 ∷ 187 ∷ []) × (b ≡ 191) × (head_with head b ≡ Past)
+two_read Start b read e h = absurd cc
+two_read One b read e h = absurd cc
+two_read Two b read e h = (h, is_that b 191 e, refl)
+two_read Past b read e h = absurd cc
+
+pub mark_taken : (old new : Input) (read out : List ℕ) (b : ℕ) → ends_mark old.head b ≡ true → new.head ≡ head_with old.head b → IsTypedAfter new.typed [] [] → IsInputAfter old read out → IsInputAfter new (read ++ b ∷ []) out
+mark_taken old new read out b ends head fresh k =
+    let (two, last, past) = two_read old.head b read ends k.head in
+    let whole : read ++ b ∷ [] ≡ 239 ∷ 187 ∷ 191 ∷ [] = λ i. two i ++ last i ∷ [] in
+    let t = k.typed in
+    let none : t.ended ≡ [] = no_line_of_mark t.ended t.current (sym (ap (λ xs. slice_split is_feed (without_mark xs)) two) ∙ t.split) in
+    let nothing : out ≡ [] = t.out_is ∙ ap (flat_map line_text) none in
+    let result : IsInputAfter new (239 ∷ 187 ∷ 191 ∷ []) [] = record {
+      typed = fresh;
+      head = subst (λ h. IsHeadOf h (239 ∷ 187 ∷ 191 ∷ [])) (sym (head ∙ past)) (λ rest. refl);
+    } in
+    subst (λ xs. IsInputAfter new xs out) (sym whole) (subst (IsInputAfter new (239 ∷ 187 ∷ 191 ∷ [])) (sym nothing) result)
+
+-- the answer of the line behind the last line feed
+pub last_printed : (input : Input) (read before page : List ℕ) (r : Result (Option Answer) Refusal) → ((line : List ℕ) → IsLineAfter input.typed.line line → r ≡ line_answer line) → page ≡ answer_text r ++ 10 ∷ [] → IsInputAfter input read before → input.typed.begun ≡ true → before ++ page ≡ answers_of (without_mark read)
+last_printed input read before page r says printed k begun =
+    let t = k.typed in
+    (λ i. t.out_is i ++ (printed ∙ ap (λ x. answer_text x ++ 10 ∷ []) (says t.current t.taken)) i)
+    ∙ sym (answers_of_last (without_mark read) t.ended t.current t.split (sym t.begun ∙ begun))

@@ -2,3 +2,4 @@ mod Answered
 mod HandStates
 mod LineStates
 mod Parts
+mod Steps

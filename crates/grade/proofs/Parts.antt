@@ -29,7 +29,7 @@ step_grown false x b (part ∷ []) h = refl
 step_grown false x b (part ∷ next ∷ more) h = refl
 
 module _ (p : ℕ → Bool) where
-  some_part : (xs : List ℕ) → 0 < length (slice_split p xs)
+  pub some_part : (xs : List ℕ) → 0 < length (slice_split p xs)
   some_part xs = omega (arith, length-slice_split p xs)
 
   -- a byte that ends a part begins an empty one

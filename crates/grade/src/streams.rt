@@ -1,116 +1,98 @@
-// Lines taken from any reader of bytes, and their answers given to any writer.
-ghost use Rattle.std.specs.Prelude.{ℕ, ◌≡◌, ◌≤◌, ◌<◌, ◌++◌, [], ◌∷◌, take, length, IfOk, OnOk, IfSome};
-ghost use Rattle.std.specs.Io.KnownBytes.{Appends, Consumes, IsAtEnd};
-ghost use Rattle.grade.specs.Faults.{as_refusal};
-ghost use Rattle.grade.specs.Streams.{answer_text, answers_of, without_mark};
+// Lines read from a source, and their answers written to a sink.
+ghost use Rattle.std.specs.Prelude.{◌≡◌, ℕ, ◌<◌, List, Option, length};
+ghost use Rattle.std.specs.Io.KnownBytes.{Consumes, IsAtEnd};
+ghost use Rattle.grade.specs.Inputs.{Answering, AnswersMore, ReadsMore};
+ghost use Rattle.grade.specs.Streams.{Grades};
 
-use crate::answers::Answer;
-use crate::faults::Fault;
-use crate::line::Line;
-use std::io::{ErrorKind, Read, Write};
-use std::{fmt, io};
+use crate::input::Input;
+use byte_streams::error::StreamError;
+use byte_streams::sink::{Sink, write_all};
+use byte_streams::source::Source;
+use std::alloc::Global;
+use std::io::ErrorKind;
 
-// What editors put at the head of a text in UTF-8.
-const MARK: [u8; 3] = [0xEF, 0xBB, 0xBF];
+// How many bytes are read at once.
+const ROOM: usize = 4096;
 
-/// What failed, before all lines were answered.
-#[derive(Drop)]
-pub enum Failure {
-    Reading(io::Error),
-    Writing(io::Error),
-    Memory,
-}
-
-impl fmt::Display for Failure {
-    fn fmt<W: fmt::Write>(&self, f: &mut fmt::Formatter<W>) -> fmt::Result {
-        match self {
-            Failure::Reading(error) => write!(f, "reading failed: {error}"),
-            Failure::Writing(error) => write!(f, "writing failed: {error}"),
-            Failure::Memory => write!(f, "out of memory"),
-        }
-    }
-}
-
-// Writes the line that is printed of an answer, an empty one where there is none.
-fn write_answer<W: Write>(writer: &mut W, answer: Result<Option<Answer>, Fault>) -> io::Result<()>
-    ensures { OnOk result (Appends (W.contents writer.old) (W.contents writer.new) (answer_text (as_refusal answer) ++ 10 ∷ [])) }
+// Answers the lines that end among some bytes.
+fn answer_bytes<T: Sink>(
+    alloc: Global,
+    sink: &mut T,
+    input: &mut Input,
+    bytes: &[u8],
+) -> Result<(), StreamError>
+    ensures { (source middle source' first : Option (List ℕ)) → Answering source middle first (T.contents sink.old) input.old → Consumes middle source' bytes.now → 0 < length bytes.now → AnswersMore (λ _. ⊥) T.fails_with source source' first (T.contents sink.new) input.new result }
 {
-    match answer {
-        Ok(None) => writer.write_all(b"\n"),
-        Ok(Some(answer)) => writeln!(writer, "{answer}"),
-        Err(fault) => writeln!(writer, "{fault}"),
-    }
+    let mut page = Vec::new(alloc);
+    input.take_all(&mut page, bytes)?;
+    write_all(sink, &page)
 }
 
-// Answers each line, as it ends.
-fn answer_lines<R: Read + Drop, W: Write>(reader: R, writer: &mut W) -> Result<(), Failure>
-    ensures { OnOk result (IfSome (R.remaining reader) (λ text. Appends (W.contents writer.old) (W.contents writer.new) (answers_of text))) }
+// Reads some bytes, and answers the lines that end among them. Returns whether there may be more.
+fn answer_next<S: Source, T: Sink>(
+    alloc: Global,
+    source: &mut S,
+    sink: &mut T,
+    input: &mut Input,
+) -> Result<bool, StreamError>
+    ensures { (known first : Option (List ℕ)) → Answering known (S.remaining source.old) first (T.contents sink.old) input.old → ReadsMore S.fails_with T.fails_with known (S.remaining source.new) first (T.contents sink.new) input.new result }
 {
-    let mut line = Line::new();
-    let mut begun = false;
-    for byte in reader.bytes() {
-        let byte = match byte {
-            Ok(byte) => byte,
-            Err(error) => return Err(Failure::Reading(error)),
-        };
-        if byte == b'\n' {
-            if let Err(error) = write_answer(writer, line.answer()) {
-                return Err(Failure::Writing(error));
-            }
-            line = Line::new();
-            begun = false;
-        } else {
-            line.take(byte);
-            begun = true;
+    let mut buffer = [0; ROOM];
+    match source.read_some(&mut buffer) {
+        Ok(0) => Ok(false),
+        Ok(count) => {
+            answer_bytes(alloc, sink, input, &buffer[..count])?;
+            Ok(true)
         }
+        Err(error) if error.kind() == ErrorKind::Interrupted => Ok(true),
+        Err(error) => Err(StreamError::Reading(error)),
     }
-    if begun {
-        if let Err(error) = write_answer(writer, line.answer()) {
-            return Err(Failure::Writing(error));
-        }
-    }
-    Ok(())
 }
 
-// Reads the first three bytes, or as many as there are.
-fn read_head<R: Read>(reader: &mut R, head: &mut [u8; 3]) -> io::Result<usize>
-    ensures count { IfOk result (λ count. count ≤ 3) }
-    ensures bytes { IfOk result (λ count. Consumes (R.remaining reader.old) (R.remaining reader.new) (take count head.new)) }
-    ensures end { IfOk result (λ count. count < 3 → IsAtEnd (R.remaining reader.new)) }
+// Answers the line behind the last line feed, if there is one.
+fn answer_last<T: Sink>(alloc: Global, sink: &mut T, input: &Input) -> Result<(), StreamError>
+    ensures { (source source' first : Option (List ℕ)) → Answering source source' first (T.contents sink.old) input.now → IsAtEnd source' → Grades (λ _. ⊥) T.fails_with source source' first (T.contents sink.new) result }
 {
-    let mut count = 0;
-    for _ in 0..u64::MAX {
-        if count >= 3 {
-            return Ok(count);
-        }
-        match reader.read(&mut head[count..]) {
-            Ok(0) => return Ok(count),
-            Ok(more) => count += more,
-            Err(error) if error.kind() == ErrorKind::Interrupted => {}
-            Err(error) => return Err(error),
-        }
+    if !input.is_in_line() {
+        return Ok(());
     }
-    Err(io::Error::from(ErrorKind::Interrupted))
+    let mut page = Vec::new(alloc);
+    input.print_last(&mut page)?;
+    write_all(sink, &page)
 }
 
-/// Answers each line of an input, from its first byte, or behind a byte-order mark that it begins with, to its end: a line is written for each
+// The last read that is made: an input that has more bytes is too long.
+fn end<S: Source, T: Sink>(
+    alloc: Global,
+    source: &mut S,
+    sink: &mut T,
+    input: &Input,
+) -> Result<(), StreamError>
+    ensures { (known first : Option (List ℕ)) → Answering known (S.remaining source.old) first (T.contents sink.old) input.now → Grades S.fails_with T.fails_with known (S.remaining source.new) first (T.contents sink.new) result }
+{
+    match source.read_some(&mut [0]) {
+        Ok(0) => answer_last(alloc, sink, input),
+        Ok(_) => Err(StreamError::OutOfMemory),
+        Err(e) => Err(StreamError::Reading(e)),
+    }
+}
+
+/// Reads an input from its first byte, or behind a byte-order mark that it begins with, to its end, and answers each line: a line is written for each
 /// line, and an empty one for a line with no word and no bar. What does not end with a line feed is a line too. Keeps no line whole.
-pub fn grade_lines<R: Read + Drop, W: Write>(mut reader: R, writer: &mut W) -> Result<(), Failure>
-    ensures { OnOk result (IfSome (R.remaining reader) (λ input. Appends (W.contents writer.old) (W.contents writer.new) (answers_of (without_mark input)))) }
+/// Where the source returns an error, the lines that had ended are answered; where the sink does, a part of the answers is written; where there is no memory, as for an input of more than 2^64 - 1 reads,
+/// whole lines are answered, and not all.
+pub fn grade_lines<S: Source, T: Sink>(
+    alloc: Global,
+    source: &mut S,
+    sink: &mut T,
+) -> Result<(), StreamError>
+    ensures { Grades S.fails_with T.fails_with (S.remaining source.old) (S.remaining source.new) (T.contents sink.old) (T.contents sink.new) result }
 {
-    let mut head = [0; 3];
-    let count = match read_head(&mut reader, &mut head) {
-        Ok(count) => count,
-        Err(error) => return Err(Failure::Reading(error)),
-    };
-    let text = text_of(&head[..count]);
-    answer_lines(text.chain(reader), writer)
-}
-
-// The head of an input without its byte-order mark.
-fn text_of(head: &[u8]) -> &[u8]
-    requires { length head.now ≤ 3 }
-    ensures { result.now ≡ without_mark head.now }
-{
-    if head == MARK.as_slice() { &[] } else { head }
+    let mut input = Input::new();
+    for _ in 0..u64::MAX {
+        if !answer_next(alloc, source, sink, &mut input)? {
+            return answer_last(alloc, sink, &input);
+        }
+    }
+    end(alloc, source, sink, &input)
 }

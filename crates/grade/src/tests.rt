@@ -1,5 +1,8 @@
 // Inputs of any bytes, graded to a page in memory, and a reader and a writer that fail.
-use crate::streams::{Failure, grade_lines};
+use crate::streams::grade_lines;
+use byte_streams::error::StreamError;
+use byte_streams::sink::ToWriter;
+use byte_streams::source::FromReader;
 use std::io;
 use std::io::{Error, ErrorKind, Read, Write};
 use std::test::Fail;
@@ -7,9 +10,9 @@ use std::test::Fail;
 // Bytes that are no UTF-8, a blank line and a mark, with the rest of the hands still graded; the last line has no line feed.
 #[test]
 fn every_line_is_answered(rt: HostRuntime) -> Result<(), Fail> {
-    let input = b"\xEF\xBB\xBFas ks qs\nas ks \xFF\xFE\n \r\n9d 9c 2h | As Kd Jc".as_slice();
+    let mut input = b"\xEF\xBB\xBFas ks qs\nas ks \xFF\xFE\n \r\n9d 9c 2h | As Kd Jc".as_slice();
     let mut page = Vec::new(rt.alloc());
-    assert!(rt; grade_lines(input, &mut page).is_ok());
+    assert!(rt; grade_lines(rt.alloc(), &mut input, &mut page).is_ok());
     assert_eq!(rt;
         page.as_slice(),
         b"straight flush\nrefused 12: a word is no card, or a hand has one card twice\n\npair | odd cards | first\n".as_slice()
@@ -25,7 +28,7 @@ fn long_lines_are_answered(rt: HostRuntime) -> Result<(), Fail> {
         .chain(io::repeat(b' ').take(20_000))
         .chain(b"ks qs | ad kd jd\n4d 3d 2d\n".as_slice());
     let mut page = Vec::new(rt.alloc());
-    assert!(rt; grade_lines(hands, &mut page).is_ok());
+    assert!(rt; grade_lines(rt.alloc(), &mut FromReader(hands), &mut page).is_ok());
     assert_eq!(rt;
         page.as_slice(),
         b"refused 12: a word is no card, or a hand has one card twice\nstraight flush | flush | first\nstraight flush\n".as_slice()
@@ -55,13 +58,11 @@ impl Read for BreaksOff {
 #[test]
 fn a_failed_read_is_said(rt: HostRuntime) -> Result<(), Fail> {
     let mut page = Vec::new(rt.alloc());
-    let result = grade_lines(
-        BreaksOff {
-            left: b"as ks qs\nas",
-        },
-        &mut page,
-    );
-    assert!(rt; matches!(result, Err(Failure::Reading(_))));
+    let mut source = FromReader(BreaksOff {
+        left: b"as ks qs\nas",
+    });
+    let result = grade_lines(rt.alloc(), &mut source, &mut page);
+    assert!(rt; matches!(result, Err(StreamError::Reading(_))));
     assert_eq!(rt; page.as_slice(), b"straight flush\n".as_slice());
     Ok(())
 }
@@ -82,7 +83,8 @@ impl Write for Full {
 
 #[test]
 fn a_failed_write_is_said(rt: HostRuntime) -> Result<(), Fail> {
-    let result = grade_lines(b"as ks qs\n".as_slice(), &mut Full);
-    assert!(rt; matches!(result, Err(Failure::Writing(_))));
+    let mut input = b"as ks qs\n".as_slice();
+    let result = grade_lines(rt.alloc(), &mut input, &mut ToWriter(Full));
+    assert!(rt; matches!(result, Err(StreamError::Writing(_))));
     Ok(())
 }
