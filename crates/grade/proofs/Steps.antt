@@ -1,5 +1,5 @@
 -- Steps of reading an input and answering its lines.
-use Rattle.std.proofs.Common.{◌≡◌, ℕ, ◌+◌, ◌<◌, ◌≤◌, Bool, true, false, List, [], ◌∷◌, ◌++◌, length, take, Some, None, Ok, Err, Option, Result, IfSome, sym, refl, ap, ◌∙◌, subst, arith, append_assoc, length-append, length-take-le}
+use Rattle.std.proofs.Common.{◌≡◌, ℕ, ◌+◌, ◌<◌, ◌≤◌, true, false, List, [], ◌∷◌, ◌++◌, length, take, Some, None, Ok, Err, Option, Result, IfSome, sym, ap, ◌∙◌, subst, arith, append_assoc, length-append, length-take-le}
 use Rattle.std.proofs.KnownBytes.{Consumes-nil, Consumes-trans, Consumes-kept, Consumes-whole, Appends-nil, Appends-trans}
 use Rattle.std.proofs.Math.Seq.{take-append-add}
 use Rattle.std.proofs.lemmas.List.{append-nil, take-append-le}
@@ -9,9 +9,9 @@ use Rattle.std.specs.declared.io.Error.{Error}
 use Rattle.byte_streams.specs.Streams.{AppendsPart, WritesAll}
 use Rattle.byte_streams.specs.declared.error.StreamError.{StreamError}
 use Rattle.byte_streams.specs.declared.error.StreamError.TheVariants.{Reading, OutOfMemory, Writing}
-use Rattle.grade.specs.Inputs.{IsInputAfter, Answering, AnswersMore, ReadsMore}
+use Rattle.grade.specs.Inputs.{IsInputAfter, Answering, AnswersMore}
 use Rattle.grade.specs.Lines.{is_word}
-use Rattle.grade.specs.Streams.{AnswersEnded, LeavesUnanswered, AnswersPart, Fails, Grades, answers_of, line_text, without_mark}
+use Rattle.grade.specs.Streams.{AnswersEnded, LeavesUnanswered, Fails, Grades, answers_of, line_text, without_mark}
 use Rattle.grade.specs.declared.input.Input.{Input}
 use Rattle.grade.proofs.Answered.{answers_by_parts, answers_of_none, last_line}
 

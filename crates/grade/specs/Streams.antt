@@ -35,6 +35,7 @@ abbrev pub without_mark : List ℕ → List ℕ
 without_mark (a ∷ b ∷ c ∷ rest) = cond (a == 239 && (b == 187 && c == 191)) rest (a ∷ b ∷ c ∷ rest)
 without_mark input = input
 
+-- whether a byte is a line feed
 abbrev pub is_feed : ℕ → Bool
 is_feed b = b == 10
 

@@ -1,5 +1,5 @@
 -- The page holds the answers of the lines that end among the bytes.
-use Rattle.std.proofs.Common.{ℕ, List, ◌++◌, sym, subst}
+use Rattle.std.proofs.Common.{◌++◌, sym, subst}
 use Rattle.std.proofs.lemmas.Result.{err_from_is_err_and}
 use Rattle.byte_streams.specs.Streams.{WritesAll}
 use Rattle.grade.specs.Inputs.{IsInputAfter}

@@ -1,6 +1,5 @@
 -- A read of no byte is made at the end only.
-use Rattle.std.proofs.Common.{take, subst, arith}
-use Rattle.std.specs.Io.KnownBytes.{Consumes}
+use Rattle.std.proofs.Common.{take, arith}
 use Rattle.grade.proofs.Steps.{any_source_graded, still, keeps_none, left_over, some_read}
 use Rattle.grade.proofs.streams.end.Goals as goal
 
