@@ -1,7 +1,7 @@
 #!/usr/bin/env python3
 """Plants wrong code in crates, one bug at a time, and says what refused each.
 
-usage: tools/plant.py [--write] [--only TEXT] CRATE..
+usage: tools/plant.py [--write] [--untried] [--only TEXT] CRATE..
 
 The bugs of a crate are in docs/planted/CRATE.txt: blocks of lines, with an empty line between them,
 
@@ -11,7 +11,8 @@ The bugs of a crate are in docs/planted/CRATE.txt: blocks of lines, with an empt
     by: FUNCTION, GOAL   what refused it: a fact that no longer holds there, or the file of a proof that no longer fits
 
 The checkout is copied, so that nothing here changes; there each bug is tried as an edit that the prover must refuse.
---write puts into the file what refused each. --only tries the bugs whose text has TEXT.
+--write puts into the file what refused each. --only tries the bugs whose text has TEXT, --untried those of which
+the file does not say what refused them.
 The status is 1 where a bug was not refused, or does not fit its file."""
 import pathlib
 import re
@@ -72,6 +73,7 @@ def tried(crate, copy, bugs):
 def main():
     args = sys.argv[1:]
     write = "--write" in args
+    untried = "--untried" in args
     only = args[args.index("--only") + 1] if "--only" in args else ""
     crates = [a for n, a in enumerate(args) if not a.startswith("--") and (n == 0 or args[n - 1] != "--only")]
     if not crates:
@@ -81,6 +83,8 @@ def main():
         page = top / "docs" / "planted" / f"{crate}.txt"
         every = blocks(page.read_text())
         chosen = [b for b in every if only in "\n".join(b)]
+        if untried:
+            chosen = [b for b in chosen if not any(l.startswith("by: ") for l in b)]
         with tempfile.TemporaryDirectory() as folder:
             copy = pathlib.Path(folder) / "copy"
             shutil.copytree(top, copy, symlinks=True, ignore=shutil.ignore_patterns(".git", "target"))
