@@ -33,7 +33,13 @@ pub fn is_card(byte: u8) -> bool
 fn copies(card: u8, cards: &[u8]) -> usize
     ensures { result ≡ copies_of card cards.now }
 {
-    cards.iter().filter(|other| **other == card).count()
+    let mut count = 0;
+    for other in cards {
+        if *other == card {
+            count += 1;
+        }
+    }
+    count
 }
 
 // Whether a byte is a card, and stands among the cards once.

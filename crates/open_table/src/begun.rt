@@ -18,7 +18,7 @@ pub struct Begun {
 }
 
 /// Opens the table that the sheet begins with and runs the sheet on it: `None` where there is no command, and `Err` with the note of why no table was opened.
-pub fn begin(reader: &mut Reader<'_>, rolls: &mut Rolls<'_>) -> Result<Option<Begun>, Note>
+pub fn begin(reader: &mut Reader<'_>, rolls: &mut Rolls<'_, '_>) -> Result<Option<Begun>, Note>
     ensures begun { SheetBegun reader.old.sheet.now reader.old.place.at rolls.old.ledger rolls.old.notes result reader.new.place.at rolls.new.ledger rolls.new.notes }
     ensures least { LeastNoted reader.old.sheet.now reader.old.place.at result }
     ensures sheet { reader.new.sheet ≡ reader.old.sheet }

@@ -20,7 +20,13 @@ fn stakers(seats: &[bool]) -> usize
     ensures count { result ≡ stakers seats.now }
     ensures bound { result ≤ length seats.now }
 {
-    seats.iter().filter(|stakes| **stakes).count()
+    let mut count = 0;
+    for stakes in seats {
+        if *stakes {
+            count += 1;
+        }
+    }
+    count
 }
 
 // How many staking seats stand before a seat, which is counted from 0.

@@ -8,7 +8,7 @@ pub mod dealing;
 mod ranks;
 
 // How a round ends for a raised seat, and what ante and raise then bring.
-mod outcome;
+pub mod outcome;
 
 // A seat's stakes by their names.
 mod stakes;

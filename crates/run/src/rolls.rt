@@ -8,6 +8,7 @@ use ledger::entries::Entry;
 use ledger::notes::Note;
 use ledger::rolls::Roll;
 use refusals::Refusal;
+use std::mem;
 
 // A settlement writes at most so many entries: one a seat.
 const MOST_ENTRIES: usize = 7;
@@ -15,12 +16,32 @@ const MOST_ENTRIES: usize = 7;
 /// The ledger, and the notes of what was refused.
 // Reader and rolls are not one struct: the first command reads before anything is kept, and printing keeps nothing of what is read.
 #[derive(Drop)]
-pub struct Rolls<'a> {
+pub struct Rolls<'a, 'b> {
     pub ledger: Roll<'a, Entry>,
-    pub notes: Roll<'a, Note>,
+    pub notes: Roll<'b, Note>,
 }
 
-impl Rolls<'_> {
+impl<'a, 'b> Rolls<'a, 'b> {
+    /// Takes a ledger and notes that were each lent to the caller; until they are given back, rolls without places stand where they were.
+    pub fn take(ledger: &mut Roll<'a, Entry>, notes: &mut Roll<'b, Note>) -> Rolls<'a, 'b>
+        ensures ledger { result.ledger ≡ ledger.old }
+        ensures notes { result.notes ≡ notes.old }
+    {
+        Rolls {
+            ledger: mem::replace(ledger, Roll::new(&mut [])),
+            notes: mem::replace(notes, Roll::new(&mut [])),
+        }
+    }
+
+    /// Gives the ledger and the notes back to where they were taken from.
+    pub fn give_back(self, ledger: &mut Roll<'a, Entry>, notes: &mut Roll<'b, Note>)
+        ensures ledger { ledger.new ≡ self.entry.ledger }
+        ensures notes { notes.new ≡ self.entry.notes }
+    {
+        *ledger = self.ledger;
+        *notes = self.notes;
+    }
+
     // Whether they lack room for whatever one command may write.
     pub(crate) fn lack_room(&self) -> bool
         ensures { result ≡ no_room (free self.now.ledger) (free self.now.notes) }

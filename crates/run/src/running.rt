@@ -14,7 +14,7 @@ use sheet::reading::LONGEST;
 use table::holdings::Table;
 
 // Whether the run stops here for want of room: bytes remain, and a command might not find room for what it writes.
-fn stops_here(reader: &Reader<'_>, rolls: &Rolls<'_>) -> bool
+fn stops_here(reader: &Reader<'_>, rolls: &Rolls<'_, '_>) -> bool
     ensures { result ≡ (nat_lt reader.now.place.at (length reader.now.sheet.now) && no_room (free rolls.now.ledger) (free rolls.now.notes)) }
 {
     reader.place.at < reader.sheet.len() && rolls.lack_room()
@@ -25,7 +25,7 @@ fn stops_here(reader: &Reader<'_>, rolls: &Rolls<'_>) -> bool
 fn step<G: Game>(
     table: &mut Table<G>,
     reader: &mut Reader<'_>,
-    rolls: &mut Rolls<'_>,
+    rolls: &mut Rolls<'_, '_>,
 ) -> Option<Ended>
     requires { length reader.old.sheet.now ≤ longest }
     ensures stepped { Stepped (G.rules table.old.game) reader.old.sheet.now table.old.books reader.old.place.at rolls.old.ledger rolls.old.notes result table.new.books reader.new.place.at rolls.new.ledger rolls.new.notes }
@@ -52,7 +52,7 @@ fn step<G: Game>(
 }
 
 // Performs commands until the run ends. The sheet's length is asked as by a step.
-fn go_on<G: Game>(table: &mut Table<G>, reader: &mut Reader<'_>, rolls: &mut Rolls<'_>) -> Ended
+fn go_on<G: Game>(table: &mut Table<G>, reader: &mut Reader<'_>, rolls: &mut Rolls<'_, '_>) -> Ended
     requires { length reader.old.sheet.now ≤ longest }
     ensures ran { Ran (G.rules table.old.game) reader.old.sheet.now table.old.books reader.old.place.at rolls.old.ledger rolls.old.notes result table.new.books reader.new.place.at rolls.new.ledger rolls.new.notes }
     ensures game { table.new.game ≡ table.old.game }
@@ -72,7 +72,7 @@ fn go_on<G: Game>(table: &mut Table<G>, reader: &mut Reader<'_>, rolls: &mut Rol
 pub fn run<G: Game>(
     table: &mut Table<G>,
     reader: &mut Reader<'_>,
-    rolls: &mut Rolls<'_>,
+    rolls: &mut Rolls<'_, '_>,
 ) -> Result<Ended, Refusal>
     ensures answered { Answered (G.rules table.old.game) reader.old.sheet.now table.old.books reader.old.place.at rolls.old.ledger rolls.old.notes result table.new.books reader.new.place.at rolls.new.ledger rolls.new.notes }
     ensures game { table.new.game ≡ table.old.game }

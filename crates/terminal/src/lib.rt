@@ -49,7 +49,7 @@ const NO_NOTE: Note = Note {
 };
 
 // Prints what a run wrote, entries before notes, and empties both rolls.
-fn print_run(page: &mut Vec<u8>, rolls: &mut Rolls<'_>) -> Result<(), AllocError>
+fn print_run(page: &mut Vec<u8>, rolls: &mut Rolls<'_, '_>) -> Result<(), AllocError>
     ensures printed { OnOk result (page.new.items ≡ page.old.items ++ concat (run_lines (kept rolls.old.ledger) (kept rolls.old.notes))) }
     ensures ledger { OnOk result (Emptied rolls.old.ledger rolls.new.ledger) }
     ensures notes { OnOk result (Emptied rolls.old.notes rolls.new.notes) }
@@ -64,7 +64,7 @@ fn print_run(page: &mut Vec<u8>, rolls: &mut Rolls<'_>) -> Result<(), AllocError
 
 // Runs the sheet further, and returns how the run ended.
 #[tactic(auto, using(crate::proofs::Parts::ran_well))]
-fn run_further(table: &mut OpenTable, reader: &mut Reader<'_>, rolls: &mut Rolls<'_>) -> Ended
+fn run_further(table: &mut OpenTable, reader: &mut Reader<'_>, rolls: &mut Rolls<'_, '_>) -> Ended
     requires short { length reader.old.sheet.now ≤ longest }
     ensures run { SheetRun table.old reader.old.sheet.now reader.old.place.at rolls.old.ledger rolls.old.notes (Ok result) table.new reader.new.place.at rolls.new.ledger rolls.new.notes }
     ensures sheet { reader.new.sheet ≡ reader.old.sheet }
@@ -86,7 +86,7 @@ fn go_on(
     page: &mut Vec<u8>,
     reader: &mut Reader<'_>,
     begun: Begun,
-    rolls: &mut Rolls<'_>,
+    rolls: &mut Rolls<'_, '_>,
 ) -> Result<(), AllocError>
     requires short { length reader.old.sheet.now ≤ longest }
     requires ready { Ready rolls.old.ledger rolls.old.notes }

@@ -1,8 +1,16 @@
 //! Sheets that are read and settled from sources and to sinks that fail, are interrupted, or move a byte at a time.
 use crate::streams::settle_stream;
+use crate::{NO_ENTRY, NO_NOTE};
 use byte_streams::error::StreamError;
 use byte_streams::sink::ToWriter;
 use byte_streams::source::FromReader;
+use ledger::entries::Entry;
+use ledger::notes::Note;
+use ledger::rolls::Roll;
+use open_table::begun::begin;
+use refusals::{Cause, Refusal};
+use run::rolls::Rolls;
+use sheet::reader::Reader;
 use std::io;
 use std::io::{ErrorKind, Read, Write};
 use std::test::Fail;
@@ -184,5 +192,28 @@ fn all_or_nothing_is_written_as_memory_lasts(rt: HostRuntime) -> Result<(), Fail
             assert_eq!(rt; left, 64);
         }
     }
+    Ok(())
+}
+
+// Begins a sheet on a ledger and notes that were each lent, and says whether it opened a table.
+fn begins(sheet: &[u8], ledger: &mut Roll<'_, Entry>, notes: &mut Roll<'_, Note>) -> bool {
+    let mut rolls = Rolls::take(ledger, notes);
+    let begun = begin(&mut Reader::new(sheet), &mut rolls);
+    rolls.give_back(ledger, notes);
+    matches!(begun, Ok(Some(_)))
+}
+
+#[test]
+fn a_sheet_is_run_on_rolls_that_were_lent(rt: HostRuntime) -> Result<(), Fail> {
+    let mut entries = [NO_ENTRY; 8];
+    let mut noted = [NO_NOTE; 2];
+    let mut ledger = Roll::new(&mut entries);
+    let mut notes = Roll::new(&mut noted);
+    assert!(rt; begins(ROUND, &mut ledger, &mut notes));
+    let entry = Entry::new(1, 1, 100, 200)?;
+    let refusal = Refusal::new(Cause::SpaceTaken, 1);
+    assert_eq!(rt; ledger.records(), [entry].as_slice());
+    assert_eq!(rt; notes.records(), [Note { place: 53, refusal }].as_slice());
+    assert_eq!(rt; (ledger.free(), notes.free()), (7, 1));
     Ok(())
 }

@@ -11,6 +11,7 @@ use byte_streams::source::{FromReader, Source};
 use std::alloc::Global;
 use std::env;
 use std::fs::File;
+use std::io::{BufWriter, Write};
 use terminal::streams::settle_stream;
 
 // Writes the line of a name.
@@ -38,12 +39,14 @@ fn settle_named<S: Source, T: Sink>(
     settle_stream(alloc, source, sink)
 }
 
+// Sheets are many and most of them short, so what is written of them is gathered; where an error ends the program, what was gathered is written all the same.
 fn main(rt: HostRuntime) -> Result<()> {
-    let mut sink = ToWriter(rt.stdout());
+    let mut sink = ToWriter(BufWriter::new(rt.alloc(), rt.stdout())?);
     for name in env::args(&rt)?.skip(1) {
         let file = File::open(&rt, name.as_str()).map_err(StreamError::Reading)?;
         let mut source = FromReader(file);
         settle_named(rt.alloc(), name.as_str(), &mut source, &mut sink)?;
     }
+    sink.0.flush().map_err(StreamError::Writing)?;
     Ok(())
 }
