@@ -7,6 +7,7 @@ ghost use Rattle.ledger.specs.Sums.{summed};
 use crate::seated::NamesSeat;
 use crate::sums;
 use crate::sums::{MOST_AMOUNT, SignedAmount};
+use itoa::Buffer;
 use refusals::{Cause, Refusal};
 use std::fmt;
 
@@ -65,10 +66,20 @@ impl fmt::Display for Entry {
     ghost output = { λ e. Some (entry_line e) };
 
     fn fmt<W: fmt::Write>(&self, f: &mut fmt::Formatter<W>) -> fmt::Result {
+        // most lines are of entries, and `itoa` takes fewer instructions for their digits than `{}`
+        let mut round = Buffer::new();
+        let mut seat = Buffer::new();
+        let mut staked = Buffer::new();
+        let mut returned = Buffer::new();
+        let mut net = Buffer::new();
         write!(
             f,
             "E {} {} {} {} {}",
-            self.round, self.seat, self.staked, self.returned, self.net
+            round.format(self.round),
+            seat.format(self.seat),
+            staked.format(self.staked),
+            returned.format(self.returned),
+            net.format(self.net)
         )
     }
 }
