@@ -44,35 +44,46 @@ fn print_longer<D: fmt::Display>(shown: &D, page: &mut Vec<u8>) -> Result<(), Al
     page.extend_from_slice(longer.as_bytes())
 }
 
-/// What is printed as a line: what `{}` writes of a record, and a line feed.
-pub trait Printed: fmt::Display {
+/// What is printed as a line.
+pub trait Printed {
     // the line that is printed, with its line feed
     ghost line_of: { Self → List ℕ };
 
     /// Prints the line to the end of a page. `Err` where an allocation failed: then the page stays as it was.
     fn print(&self, page: &mut Vec<u8>) -> Result<(), AllocError>
-        ensures { page.new.items ≡ (if is_ok result then page.old.items ++ line_of self.now else page.old.items) }
-    {
+        ensures { page.new.items ≡ (if is_ok result then page.old.items ++ line_of self.now else page.old.items) };
+}
+
+/// What is printed as it displays itself: its line is what `{}` writes of it, and a line feed.
+pub trait Displayed: fmt::Display {
+    // the line that is displayed, with its line feed
+    ghost shown_as: { Self → List ℕ };
+
+    ghost displayed: { (x : Self) → with_newline (Self.output x) ≡ Some (shown_as x) };
+}
+
+impl<T: Displayed> Printed for T {
+    ghost line_of = { T.shown_as };
+
+    fn print(&self, page: &mut Vec<u8>) -> Result<(), AllocError> {
         print_line(self, page)
     }
-
-    ghost displayed: { (x : Self) → with_newline (Self.output x) ≡ Some (line_of x) };
 }
 
-impl Printed for Entry {
-    ghost line_of = { printed_entry };
+impl Displayed for Entry {
+    ghost shown_as = { printed_entry };
 
     ghost displayed = { λ _. refl };
 }
 
-impl Printed for Note {
-    ghost line_of = { printed_note };
+impl Displayed for Note {
+    ghost shown_as = { printed_note };
 
     ghost displayed = { λ _. refl };
 }
 
-impl Printed for Closing {
-    ghost line_of = { printed_closing };
+impl Displayed for Closing {
+    ghost shown_as = { printed_closing };
 
     ghost displayed = { λ _. refl };
 }

@@ -1,12 +1,13 @@
 // Printed lines on examples.
-ghost use Rattle.std.specs.Prelude.{◌++◌, ◌∷◌, Some, refl};
+ghost use Rattle.std.specs.Prelude.{[], ◌++◌, ◌∷◌, Some, refl};
 ghost use Rattle.lines.specs.Lines.{with_feed};
 
-use crate::printed::{Printed, print_all};
+use crate::printed::{Displayed, Printed, print_all};
 use ledger::closings::Closing;
 use ledger::entries::Entry;
 use ledger::notes::Note;
 use refusals::{Cause, Refusal};
+use std::alloc::AllocError;
 use std::fmt;
 use std::test::Fail;
 
@@ -24,10 +25,29 @@ impl fmt::Display for Words {
     }
 }
 
-impl Printed for Words {
-    ghost line_of = { λ w. with_feed (w.first.now ++ 32 ∷ w.second.now) };
+impl Displayed for Words {
+    ghost shown_as = { λ w. with_feed (w.first.now ++ 32 ∷ w.second.now) };
 
     ghost displayed = { λ _. refl };
+}
+
+// A line that is no text of `{}`: what is printed need not display itself.
+struct Rule;
+
+impl Printed for Rule {
+    ghost line_of = { λ _. 45 ∷ 45 ∷ 10 ∷ [] };
+
+    fn print(&self, page: &mut Vec<u8>) -> Result<(), AllocError> {
+        page.extend_from_slice(b"--\n")
+    }
+}
+
+#[test]
+fn a_line_that_is_no_text_is_printed(rt: HostRuntime) -> Result<(), Fail> {
+    let mut page = Vec::new(rt.alloc());
+    print_all(&mut page, &[Rule, Rule])?;
+    assert_eq!(rt; page.as_slice(), b"--\n--\n".as_slice());
+    Ok(())
 }
 
 #[test]

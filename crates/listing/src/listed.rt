@@ -10,7 +10,7 @@ use byte_streams::error::StreamError;
 use byte_streams::sink::{Sink, write_all};
 use byte_streams::source::{Source, fill};
 use ledger::notes::Note;
-use lines::printed::{Printed, too_long_note};
+use lines::printed::{Displayed, Printed, too_long_note};
 use refusals::Refusal;
 use sheet::reader::Reader;
 use sheet::reading::LONGEST;
@@ -32,8 +32,8 @@ impl fmt::Display for Listed {
     }
 }
 
-impl Printed for Listed {
-    ghost line_of = { λ l. with_feed (decimal l.place ++ 32 ∷ l.name.now) };
+impl Displayed for Listed {
+    ghost shown_as = { λ l. with_feed (decimal l.place ++ 32 ∷ l.name.now) };
 
     ghost displayed = { λ _. refl };
 }

@@ -3,7 +3,7 @@ ghost use Rattle.std.specs.Prelude.{◌≡◌, ◌++◌, Some, refl, OnOk};
 ghost use Rattle.trace.specs.Lines.{step_line, piles_line, seats_line, sums_line, printed_step, printed_piles, printed_seats, printed_sums, position_text};
 
 use history::positions::Position;
-use lines::printed::Printed;
+use lines::printed::Displayed;
 use refusals::Refusal;
 use std::alloc::AllocError;
 use std::fmt;
@@ -35,8 +35,8 @@ impl fmt::Display for Step<'_> {
     }
 }
 
-impl Printed for Step<'_> {
-    ghost line_of = { printed_step };
+impl Displayed for Step<'_> {
+    ghost shown_as = { printed_step };
 
     ghost displayed = { λ _. refl };
 }
@@ -56,8 +56,8 @@ impl fmt::Display for Piles {
     }
 }
 
-impl Printed for Piles {
-    ghost line_of = { printed_piles };
+impl Displayed for Piles {
+    ghost shown_as = { printed_piles };
 
     ghost displayed = { λ _. refl };
 }
@@ -92,8 +92,8 @@ impl fmt::Display for Seats {
     }
 }
 
-impl Printed for Seats {
-    ghost line_of = { printed_seats };
+impl Displayed for Seats {
+    ghost shown_as = { printed_seats };
 
     ghost displayed = { λ _. refl };
 }
@@ -117,8 +117,8 @@ impl fmt::Display for Sums {
     }
 }
 
-impl Printed for Sums {
-    ghost line_of = { printed_sums };
+impl Displayed for Sums {
+    ghost shown_as = { printed_sums };
 
     ghost displayed = { λ _. refl };
 }
