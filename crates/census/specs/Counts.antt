@@ -1,5 +1,5 @@
 -- All hands of a pack, and how many of them are of a class.
-use Rattle.std.specs.Prelude.{◌≡◌, ℕ, zero, suc, ◌+◌, ◌*◌, ◌/◌, ◌%◌, Bool, false, List, [], ◌∷◌, ◌++◌, count_by, Ok, Err, Result, unwrap_or}
+use Rattle.std.specs.Prelude.{◌≡◌, ℕ, zero, suc, ◌+◌, ◌*◌, ◌/◌, ◌%◌, Bool, false, List, [], ◌∷◌, ◌++◌, count_by, slice_index, Ok, Err, Result, unwrap_or}
 use Rattle.std.specs.BTreeMap.{get, BTreeMap}
 use Rattle.std.specs.List.{flat_map}
 use Rattle.std.specs.Ordering.{is_eq}
@@ -24,6 +24,10 @@ hands_with (suc n) bound cards = flat_map (λ place. hands_with n place (card_at
 abbrev pub all_hands : ℕ → List (List ℕ)
 all_hands n = hands_with n 52 []
 
+-- the count of a class in a tally, where it stands at the place that says how many classes are lower
+abbrev pub tallied : {K : Type 0} → (K → ℕ) → List ℕ → K → ℕ
+tallied lower tally k = slice_index tally (lower k)
+
 module _ {K : Type 0} (cmp : K → K → Ordering) where
   -- the count of a class, 0 where it has none
   abbrev pub count_of : BTreeMap K ℕ → K → ℕ
@@ -40,5 +44,5 @@ module _ {K : Type 0} (cmp : K → K → Ordering) where
     how_many k hands = count_by (λ hand. is_class k (classed hand)) hands
 
     -- each class has counted those of these hands that are of it, and no other
-    abbrev pub Counts : BTreeMap K ℕ → BTreeMap K ℕ → List (List ℕ) → Type 0
-    Counts old new hands = (k : K) → count_of new k ≡ count_of old k + how_many k hands
+    abbrev pub Counts : (K → ℕ) → (K → ℕ) → List (List ℕ) → Type 0
+    Counts old new hands = (k : K) → new k ≡ old k + how_many k hands

@@ -1,7 +1,8 @@
 // Counting hands by their classes.
 ghost use Rattle.std.specs.Prelude.{◌≡◌, ℕ, ◌≤◌, ◌<◌, [], ◌∷◌, IfOk, OnOk, drop, length};
-ghost use Rattle.census.specs.Counts.{Counts, card_at as card_of_place, hands_with, all_hands, count_of, how_many};
+ghost use Rattle.census.specs.Counts.{Counts, card_at as card_of_place, hands_with, all_hands, count_of, how_many, tallied};
 
+use crate::tally::{NotCounted, Tally};
 use grading::{Hand, class};
 use std::alloc::Global;
 use std::collections::BTreeMap;
@@ -21,6 +22,15 @@ impl From<io::Error> for Failure {
     }
 }
 
+impl From<NotCounted> for Failure {
+    fn from(why: NotCounted) -> Failure {
+        match why {
+            NotCounted::Memory => Failure::Memory,
+            NotCounted::TooMany => Failure::TooMany,
+        }
+    }
+}
+
 impl fmt::Display for Failure {
     fn fmt<W: fmt::Write>(&self, f: &mut fmt::Formatter<W>) -> fmt::Result {
         match self {
@@ -32,19 +42,12 @@ impl fmt::Display for Failure {
 }
 
 // Counts one hand to its class; cards that are no hand are counted to none.
-fn note<H: Hand>(census: &mut BTreeMap<H::Class, u32>, cards: &[u8]) -> Result<(), Failure>
-    ensures { OnOk result (Counts H.Class.cmp H.classed census.old census.new (cards.now ∷ [])) }
+fn note<H: Hand>(tally: &mut Tally<H::Class>, cards: &[u8]) -> Result<(), NotCounted>
+    ensures { OnOk result (Counts H.Class.cmp H.classed (tallied H.Class.lower tally.old) (tallied H.Class.lower tally.new) (cards.now ∷ [])) }
 {
-    let Ok(class) = class::<H>(cards) else {
-        return Ok(());
-    };
-    let count = census.get(&class).copied().unwrap_or(0);
-    let Some(more) = count.checked_add(1) else {
-        return Err(Failure::TooMany);
-    };
-    match census.insert(class, more) {
-        Ok(_) => Ok(()),
-        Err(_) => Err(Failure::Memory),
+    match class::<H>(cards) {
+        Ok(class) => tally.add(class),
+        Err(_) => Ok(()),
     }
 }
 
@@ -56,24 +59,45 @@ fn card_at(place: u8) -> u8
     16 * (place / 4 + 2) + place % 4
 }
 
+// Counts the hands that have the cards behind the first of `hand`, and one more from a place of the pack below `bound`.
+fn count_last<H: Hand>(
+    tally: &mut Tally<H::Class>,
+    hand: &mut [u8],
+    bound: u8,
+) -> Result<(), NotCounted>
+    requires room { 0 < length hand.old }
+    requires pack { bound ≤ 52 }
+    ensures counts { OnOk result (Counts H.Class.cmp H.classed (tallied H.Class.lower tally.old) (tallied H.Class.lower tally.new) (hands_with 1 bound (drop 1 hand.old))) }
+    ensures kept { drop 1 hand.new ≡ drop 1 hand.old }
+{
+    for place in 0..bound {
+        hand[0] = card_at(place);
+        note::<H>(tally, hand)?;
+    }
+    Ok(())
+}
+
 // Counts the hands that have the cards behind the first `more` places of `hand`, and so many more from places of the pack below `bound`.
 fn count_with<H: Hand>(
-    census: &mut BTreeMap<H::Class, u32>,
+    tally: &mut Tally<H::Class>,
     hand: &mut [u8],
     more: usize,
     bound: u8,
-) -> Result<(), Failure>
+) -> Result<(), NotCounted>
     requires room { more ≤ length hand.old }
     requires pack { bound ≤ 52 }
-    ensures counts { OnOk result (Counts H.Class.cmp H.classed census.old census.new (hands_with more bound (drop more hand.old))) }
+    ensures counts { OnOk result (Counts H.Class.cmp H.classed (tallied H.Class.lower tally.old) (tallied H.Class.lower tally.new) (hands_with more bound (drop more hand.old))) }
     ensures kept { drop more hand.new ≡ drop more hand.old }
 {
     if more == 0 {
-        return note::<H>(census, hand);
+        return note::<H>(tally, hand);
+    }
+    if more == 1 {
+        return count_last::<H>(tally, hand, bound);
     }
     for place in 0..bound {
         hand[more - 1] = card_at(place);
-        count_with::<H>(census, hand, more - 1, place)?;
+        count_with::<H>(tally, hand, more - 1, place)?;
     }
     Ok(())
 }
@@ -85,8 +109,8 @@ pub fn count_all<H: Hand>(
 ) -> Result<BTreeMap<H::Class, u32>, Failure>
     ensures { IfOk result (λ census. (k : H.Class) → count_of H.Class.cmp census k ≡ how_many H.Class.cmp H.classed k (all_hands (length hand.old))) }
 {
-    let mut census = BTreeMap::new(alloc);
+    let mut tally = Tally::new(alloc);
     let size = hand.len();
-    count_with::<H>(&mut census, hand, size, 52)?;
-    Ok(census)
+    count_with::<H>(&mut tally, hand, size, 52)?;
+    Ok(tally.census(alloc)?)
 }

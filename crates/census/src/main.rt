@@ -2,6 +2,7 @@
 #![tactic(auto)]
 
 mod counts; // Counting hands by their classes.
+mod tally; // Counts by class while hands are counted one after another.
 #[cfg(test)]
 mod tests; // What is said of each failure.
 
