@@ -3,7 +3,7 @@ ghost use Rattle.std.specs.Prelude.{◌≡◌, ◌++◌, Some, refl, OnOk};
 ghost use Rattle.trace.specs.Lines.{step_line, piles_line, seats_line, sums_line, printed_step, printed_piles, printed_seats, printed_sums, position_text};
 
 use history::positions::Position;
-use lines::printed::Displayed;
+use lines::printed::{Displayed, Printed};
 use refusals::Refusal;
 use std::alloc::AllocError;
 use std::fmt;
