@@ -52,7 +52,11 @@ impl OpenTable {
     }
 
     /// Runs a sheet from the reading place on, and returns how the run ended, as `running::run` does.
-    pub fn run(&mut self, reader: &mut Reader<'_>, rolls: &mut Rolls<'_, '_>) -> Result<Ended, Refusal>
+    pub fn run(
+        &mut self,
+        reader: &mut Reader<'_>,
+        rolls: &mut Rolls<'_, '_>,
+    ) -> Result<Ended, Refusal>
         ensures run { SheetRun self.old reader.old.sheet.now reader.old.place.at rolls.old.ledger rolls.old.notes result self.new reader.new.place.at rolls.new.ledger rolls.new.notes }
         ensures sheet { reader.new.sheet ≡ reader.old.sheet }
     {
