@@ -1,6 +1,6 @@
 // The two rolls that a run writes to: the entries of the ledger, and the notes of what was refused.
 ghost use Rattle.std.specs.Prelude.{◌≡◌, ℕ, ◌<◌, [], ◌∷◌};
-ghost use Rattle.ledger.specs.Rolls.{free, Written};
+ghost use Rattle.ledger.specs.Rolls.{free, places, Written};
 ghost use Rattle.run.specs.Meaning.{note_of};
 ghost use Rattle.run.specs.Runs.{no_room};
 
@@ -26,6 +26,7 @@ impl<'a, 'b> Rolls<'a, 'b> {
     pub fn take(ledger: &mut Roll<'a, Entry>, notes: &mut Roll<'b, Note>) -> Rolls<'a, 'b>
         ensures ledger { result.ledger ≡ ledger.old }
         ensures notes { result.notes ≡ notes.old }
+        ensures left { (places ledger.new ≡ 0) × (places notes.new ≡ 0) }
     {
         Rolls {
             ledger: mem::replace(ledger, Roll::new(&mut [])),

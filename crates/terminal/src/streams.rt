@@ -48,8 +48,25 @@ pub fn settle_stream<S: Source, T: Sink>(
 ) -> Result<(), StreamError>
     ensures { Streams PrintedOf longest S.fails_with T.fails_with (S.remaining source.old) (T.contents sink.old) (T.contents sink.new) result }
 {
-    // one byte more than a sheet may have, so that a longer one is seen to be longer
-    let mut buffer = [0u8; LONGEST + 1];
-    let read = fill(source, &mut buffer)?;
-    settle_read(alloc, sink, &buffer, read)
+    let mut buffer = EMPTY_BUFFER;
+    settle_stream_by(alloc, &mut buffer, source, sink)
+}
+
+/// What a sheet is read into: one byte more than a sheet may have, so that a longer one is seen to be longer.
+pub type SheetBuffer = [u8; LONGEST + 1];
+
+/// A buffer to begin with.
+pub const EMPTY_BUFFER: SheetBuffer = [0; LONGEST + 1];
+
+/// Settles a sheet as `settle_stream` does, by a buffer that is lent: whoever settles many sheets makes it once.
+pub fn settle_stream_by<S: Source, T: Sink>(
+    alloc: Global,
+    buffer: &mut SheetBuffer,
+    source: &mut S,
+    sink: &mut T,
+) -> Result<(), StreamError>
+    ensures { Streams PrintedOf longest S.fails_with T.fails_with (S.remaining source.old) (T.contents sink.old) (T.contents sink.new) result }
+{
+    let read = fill(source, buffer)?;
+    settle_read(alloc, sink, buffer, read)
 }

@@ -12,7 +12,7 @@ use std::alloc::Global;
 use std::env;
 use std::fs::File;
 use std::io::{BufWriter, Write};
-use terminal::streams::settle_stream;
+use terminal::streams::{EMPTY_BUFFER, SheetBuffer, settle_stream_by};
 
 // Writes the line of a name.
 #[tactic(auto, using(crate::proofs::Naming::writes_then))]
@@ -29,6 +29,7 @@ fn write_name<T: Sink>(sink: &mut T, name: &str) -> Result<(), StreamError>
 #[tactic(auto, using(crate::proofs::Naming::named))]
 fn settle_named<S: Source, T: Sink>(
     alloc: Global,
+    buffer: &mut SheetBuffer,
     name: &str,
     source: &mut S,
     sink: &mut T,
@@ -36,16 +37,23 @@ fn settle_named<S: Source, T: Sink>(
     ensures { NamedStreams name.now S.fails_with T.fails_with (S.remaining source.old) (T.contents sink.old) (T.contents sink.new) result }
 {
     write_name(sink, name)?;
-    settle_stream(alloc, source, sink)
+    settle_stream_by(alloc, buffer, source, sink)
 }
 
-// Sheets are many and most of them short, so what is written of them is gathered; where an error ends the program, what was gathered is written all the same.
+// Sheets are many and most of them short, so what is written of them is gathered; where an error ends the program, what was gathered is still written, as far as the output takes it.
 fn main(rt: HostRuntime) -> Result<()> {
+    let mut buffer = EMPTY_BUFFER;
     let mut sink = ToWriter(BufWriter::new(rt.alloc(), rt.stdout())?);
     for name in env::args(&rt)?.skip(1) {
         let file = File::open(&rt, name.as_str()).map_err(StreamError::Reading)?;
         let mut source = FromReader(file);
-        settle_named(rt.alloc(), name.as_str(), &mut source, &mut sink)?;
+        settle_named(
+            rt.alloc(),
+            &mut buffer,
+            name.as_str(),
+            &mut source,
+            &mut sink,
+        )?;
     }
     sink.0.flush().map_err(StreamError::Writing)?;
     Ok(())
